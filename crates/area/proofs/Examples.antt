@@ -1,0 +1,34 @@
+-- Of document 01's examples those that reading decides, computed from the definitions: 9 and 10 whole, of the others the values that are handed
+-- back. Assumes nothing.
+use Prim.Native.Nat.{ℕ}
+use mathlib.Core.Path.{_≡_, refl}
+use mathlib.Core.List.{List, [], _∷_}
+use lib.ListN.{take, drop}
+use Rattle.choice.specs.Pick.{pick}
+use Rattle.area.specs.Area.{refused, nothing, at16, fault, taken, takeTac, takeSac, takeDynamic, passOther, byType, tlvAt, readFrom, readArea, part, tacOf, sacOf}
+
+refusals : (readArea (0x85 ∷ 0x0F ∷ 0 ∷ 4 ∷ 0x80 ∷ 0 ∷ 4 ∷ 0x80 ∷ []) ≡ refused 3)
+    × (readArea (0x85 ∷ 0x0F ∷ 0 ∷ 5 ∷ 0x80 ∷ []) ≡ refused 2)
+    × (readArea (0x06 ∷ 0 ∷ 0 ∷ 0 ∷ []) ≡ refused 4)
+    × (readArea (0x86 ∷ 0 ∷ 0 ∷ 0 ∷ []) ≡ nothing)
+unfolding pick at16 fault taken takeTac takeSac takeDynamic passOther byType tlvAt readFrom readArea
+refusals = (refl, refl, refl, refl)
+
+-- a second TAC is tried for 5 before its length is tried for 3
+order : readArea (0x85 ∷ 0x0F ∷ 0 ∷ 1 ∷ 0x80 ∷ 0x85 ∷ 0x0F ∷ 0 ∷ 0 ∷ []) ≡ refused 5
+unfolding pick at16 fault taken takeTac takeSac takeDynamic passOther byType tlvAt readFrom readArea
+order = refl
+
+-- examples 1, 2, 3, 4, 5, 6, 7, 8 and 11: an absent TAC has no octets, an empty one has its first
+values : (readArea [] ≡ nothing)
+    × (tacOf (0x85 ∷ 0x0F ∷ 0 ∷ 5 ∷ 0x80 ∷ 0 ∷ 4 ∷ 0x80 ∷ 0 ∷ []) ≡ 0x80 ∷ 0 ∷ 4 ∷ 0x80 ∷ 0 ∷ [])
+    × (tacOf (0x85 ∷ 0x0F ∷ 0 ∷ 1 ∷ 0x80 ∷ []) ≡ 0x80 ∷ [])
+    × (tacOf (0x85 ∷ 0x0F ∷ 0 ∷ 9 ∷ 0x80 ∷ 0 ∷ 4 ∷ 0x80 ∷ 0 ∷ 0 ∷ 7 ∷ 0x80 ∷ 0 ∷ []) ≡ 0x80 ∷ 0 ∷ 4 ∷ 0x80 ∷ 0 ∷ 0 ∷ 7 ∷ 0x80 ∷ 0 ∷ [])
+    × (sacOf (0x85 ∷ 0x0D ∷ 0 ∷ 2 ∷ 0x80 ∷ 0xC0 ∷ []) ≡ 0x80 ∷ 0xC0 ∷ [])
+    × (sacOf (0x85 ∷ 0x0D ∷ 0 ∷ 2 ∷ 0x80 ∷ 0x40 ∷ []) ≡ 0x80 ∷ 0x40 ∷ [])
+    × (tacOf (0x85 ∷ 0x0F ∷ 0 ∷ 9 ∷ 0x80 ∷ 0 ∷ 7 ∷ 0 ∷ 0 ∷ 0 ∷ 7 ∷ 0x80 ∷ 0 ∷ []) ≡ 0x80 ∷ 0 ∷ 7 ∷ 0 ∷ 0 ∷ 0 ∷ 7 ∷ 0x80 ∷ 0 ∷ [])
+    × (tacOf (0x85 ∷ 0x0F ∷ 0 ∷ 1 ∷ 0 ∷ []) ≡ 0 ∷ [])
+    × (tacOf (0x85 ∷ 0x0F ∷ 0 ∷ 5 ∷ 0x80 ∷ 0 ∷ 14 ∷ 0x80 ∷ 0 ∷ []) ≡ 0x80 ∷ 0 ∷ 14 ∷ 0x80 ∷ 0 ∷ [])
+    × (tacOf (0x85 ∷ 0x0F ∷ 0 ∷ 5 ∷ 0x80 ∷ 0 ∷ 4 ∷ 0 ∷ 0 ∷ []) ≡ 0x80 ∷ 0 ∷ 4 ∷ 0 ∷ 0 ∷ [])
+unfolding pick at16 fault taken takeTac takeSac takeDynamic passOther byType tlvAt readFrom readArea part
+values = (refl, refl, refl, refl, refl, refl, refl, refl, refl, refl)

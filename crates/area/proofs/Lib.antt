@@ -1,0 +1,4 @@
+pub mod Turn
+pub mod Parts
+pub mod Determined
+pub mod Examples

@@ -1,0 +1,32 @@
+-- `area::pass_other` meets its contract: each return by the tests that led there. Assumes nothing.
+use Rattle.choice.proofs.Branch.{branch}
+use Rattle.area.specs.Area.{passOther}
+use borrow.Author.Needs.{needs}
+use Rattle.area.proofs.pass_other.Statement.{statement}
+use Rattle.area.proofs.pass_other.Tie as tie
+
+returns : tie.Need-returns
+unfolding passOther
+returns c = search branch
+
+refuse-requires : tie.Need-refuse-requires
+refuse-requires c κs = search needs
+
+returns-2 : tie.Need-returns-2
+unfolding passOther
+returns-2 c = search branch
+
+refuse-requires-2 : tie.Need-refuse-requires-2
+refuse-requires-2 c κs = search needs
+
+returns-3 : tie.Need-returns-3
+unfolding passOther
+returns-3 c = search branch
+
+returns-4 : tie.Need-returns-4
+unfolding passOther
+returns-4 c = search branch
+
+pub pass-other-spec : {M : Type 1} → statement M
+pass-other-spec =
+    tie.close (tie.spec returns refuse-requires returns-2 refuse-requires-2 returns-3 returns-4)

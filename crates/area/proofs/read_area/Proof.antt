@@ -1,0 +1,105 @@
+-- `area::read_area` meets its contract. The loop's invariant: reading on from `at`, with what was found, gives what reading the whole gives.
+-- Assumes nothing.
+use borrow.Author.Needs.{needs}
+use borrow.Author.Tests.{le-ltb}
+use native.Mathlib.Omega.{arith}
+use mathlib.Core.Path.{_∙_, sym, ap}
+use Prim.Native.Nat.{_-_}
+use lib.ListN.{length}
+use denote.Ref.{now}
+use Rattle.choice.proofs.Branch.{branch}
+use Rattle.choice.specs.Pick.{pick}
+use Rattle.area.specs.declared.Reading.{Reading}
+use Rattle.area.specs.Area.{nextAt, readFrom, readArea, nothing}
+use Rattle.area.proofs.Turn.{Reads, done, stop, onward}
+use Rattle.area.proofs.read_area.Statement.{statement}
+use Rattle.area.proofs.read_area.Tie as tie
+
+abbrev Inv-loop : tie.InvT-loop
+Inv-loop area at₀ found₀ at found = Reads area at found (readFrom (length area) area 0 nothing)
+
+abbrev μ-loop : tie.MeasureT-loop
+μ-loop area at₀ found₀ at found = length area - at
+
+-- past the test the TLV was taken, and the loop goes on after it
+next : (c : tie.Else2 Inv-loop μ-loop)
+    → let a = now (c .before .before .before .before .before .before .before .before .args .area) in
+    Reads a (nextAt a (c .before .before .before .before .loop .at)) (c .before .before .tlv-at .result) (readFrom (length a) a 0 nothing)
+next c =
+    let t = c .before .before .tlv-at .ensures in
+    rw t (onward _ _ _ _ (c .before .before .before .loop-test .taken) (c .before .before .before .before .loop .inv) (rw t at (c .if2 .left)))
+
+refuse-requires : tie.Need-refuse-requires Inv-loop μ-loop
+refuse-requires c κs = search needs
+
+returns : tie.Need-returns Inv-loop μ-loop
+unfolding readArea pick
+returns c = search branch
+
+refuse-requires-2 : tie.Need-refuse-requires-2 Inv-loop μ-loop
+refuse-requires-2 c κs = search needs
+
+loop-holds : tie.Need-loop-holds Inv-loop μ-loop
+loop-holds c =
+    record {
+      more = length (now (c .before .before .before .args .area));
+      inside = omega arith;
+      enough = omega arith;
+      same = rw (c .refuse2 .ensures);
+    }
+
+tlv-at-requires : tie.Need-tlv-at-requires Inv-loop μ-loop
+tlv-at-requires c κs = omega arith
+
+returns-2 : tie.Need-returns-2 Inv-loop μ-loop
+unfolding readArea pick
+returns-2 c =
+    let t = c .before .before .tlv-at .ensures in
+    let i = c .before .before .before .before .loop .inv in
+    let n = ap (λ (r : Reading). r .refusal) t in
+    simp (le-ltb _ _ (c .before .before .before .before .before .before .if1 .left))
+    (t ∙ sym (stop (i .more) _ _ _ (c .before .before .before .loop-test .taken) (i .enough) (λ e. c .if2 .taken (n ∙ e))) ∙ i .same)
+
+add-at : tie.Need-add-at Inv-loop μ-loop
+add-at c = omega (arith, next c)
+
+add-get16 : tie.Need-add-get16 Inv-loop μ-loop
+add-get16 c = omega (arith, next c)
+
+get16-requires : tie.Need-get16-requires Inv-loop μ-loop
+get16-requires c κs = omega (arith, next c)
+
+add-at-2 : tie.Need-add-at-2 Inv-loop μ-loop
+add-at-2 c = omega (arith, next (c .before))
+
+loop-less : tie.Need-loop-less Inv-loop μ-loop
+loop-less c = omega (arith, next (c .before))
+
+loop-again : tie.Need-loop-again Inv-loop μ-loop
+loop-again c = rw (c .get16 .ensures .0) (next (c .before))
+
+returns-3 : tie.Need-returns-3 Inv-loop μ-loop
+unfolding readArea pick
+returns-3 c =
+    let i = c .before .loop .inv in
+    simp (le-ltb _ _ (c .before .before .before .if1 .left)) (sym (done (i .more) _ _ _ (c .loop-test .left)) ∙ i .same)
+
+pub read-area-spec : {M : Type 1} → statement M
+read-area-spec =
+    tie.close
+    (tie.spec
+    Inv-loop
+    μ-loop
+    refuse-requires
+    returns
+    refuse-requires-2
+    loop-holds
+    tlv-at-requires
+    returns-2
+    add-at
+    add-get16
+    get16-requires
+    add-at-2
+    loop-less
+    loop-again
+    returns-3)

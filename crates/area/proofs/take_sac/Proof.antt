@@ -1,0 +1,18 @@
+-- `area::take_sac` meets its contract. Assumes nothing.
+use Rattle.area.specs.Area.{takeSac}
+use borrow.Author.Needs.{needs}
+use Rattle.area.proofs.take_sac.Statement.{statement}
+use Rattle.area.proofs.take_sac.Tie as tie
+
+fault-requires : tie.Need-fault-requires
+fault-requires c κs = search needs
+
+taken-requires : tie.Need-taken-requires
+taken-requires c κs = search needs
+
+returns : tie.Need-returns
+unfolding takeSac
+returns c = simp (c .taken .ensures, c .before .fault .ensures)
+
+pub take-sac-spec : {M : Type 1} → statement M
+take-sac-spec = tie.close (tie.spec fault-requires taken-requires returns)

@@ -1,0 +1,18 @@
+-- `area::take_tac` meets its contract. Assumes nothing.
+use Rattle.area.specs.Area.{takeTac}
+use borrow.Author.Needs.{needs}
+use Rattle.area.proofs.take_tac.Statement.{statement}
+use Rattle.area.proofs.take_tac.Tie as tie
+
+fault-requires : tie.Need-fault-requires
+fault-requires c κs = search needs
+
+taken-requires : tie.Need-taken-requires
+taken-requires c κs = search needs
+
+returns : tie.Need-returns
+unfolding takeTac
+returns c = simp (c .taken .ensures, c .before .fault .ensures)
+
+pub take-tac-spec : {M : Type 1} → statement M
+take-tac-spec = tie.close (tie.spec fault-requires taken-requires returns)

@@ -1,0 +1,47 @@
+-- `kinds::opened` meets its contract. The loop's invariant: the kinds are those of the applications 1 to i. Assumes nothing.
+use mathlib.Core.Path.{_≡_, refl, _∙_, sym, ap}
+use Prim.Native.Nat.{ℕ, _≤_, _-_, _+_}
+use native.Mathlib.Omega.{arith}
+use Rattle.choice.specs.Pick.{pick}
+use Rattle.sets.specs.Set.{has, union}
+use Rattle.kinds.specs.Kinds.{gather, opens, opened}
+use Rattle.kinds.proofs.Gathered.{gather-more}
+use Rattle.kinds.proofs.opened.Statement.{statement}
+use Rattle.kinds.proofs.opened.Tie as tie
+
+abbrev Inv-loop : tie.InvT-loop
+Inv-loop applications protects kinds₀ i₀ kinds i = (i ≤ 13) × (kinds ≡ gather (opens protects) i applications)
+
+abbrev μ-loop : tie.MeasureT-loop
+μ-loop applications protects kinds₀ i₀ kinds i = 13 - i
+
+loop-holds : tie.Need-loop-holds Inv-loop μ-loop
+unfolding gather
+loop-holds c = (omega arith, refl)
+
+with-row-requires : tie.Need-with-row-requires Inv-loop μ-loop
+with-row-requires c κs = omega arith
+
+add-i : tie.Need-add-i Inv-loop μ-loop
+add-i c = omega arith
+
+loop-less : tie.Need-loop-less Inv-loop μ-loop
+loop-less c = omega arith
+
+loop-again : tie.Need-loop-again Inv-loop μ-loop
+loop-again c =
+    let l = c .before .before .loop in
+    let a = c .before .before .before .args in
+    (omega arith, c .with-row .ensures ∙ ap (λ (k : ℕ). union k (pick (has (a .applications) (l .i)) (opens (a .protects) (l .i + 1)) 0)) (l .inv .1) ∙ sym (gather-more (opens (a .protects)) (l .i) (a .applications)))
+
+returns : tie.Need-returns Inv-loop μ-loop
+unfolding opened
+returns c =
+    let l = c .before .loop in
+    let e : l .i ≡ 13 = omega arith in
+    rw e at (l .inv .1)
+
+pub opened-spec : {M : Type 1} → statement M
+opened-spec =
+    tie.close
+    (tie.spec Inv-loop μ-loop loop-holds with-row-requires add-i loop-less loop-again returns)

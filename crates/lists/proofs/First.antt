@@ -1,0 +1,97 @@
+-- Of the elements of a TAC with equal identifiers the first decides, whatever its E; an application that no element names stays as it was; in an
+-- opening from the empty list exactly the known identifiers present are listed; and no bits come beyond the thirteen applications.
+-- By induction over the elements: only the first with an identifier can touch it. Assumes nothing.
+use Prim.Native.Nat.{ℕ, zero, suc, _+_, _-_, _^_, _<_, _≤_}
+use native.Mathlib.Omega.{arith}
+use native.Mathlib.Decide.{ℕ-discrete, decLt}
+use mathlib.Core.Path.{_≡_, _∙_, sym, ap, refl}
+use mathlib.Core.List.{List}
+use mathlib.Core.Bool.{Bool, true, false, _||_}
+use lib.Dec.{eqb}
+use borrow.Author.Tests.{eq-eqb, ne-eqb}
+use Rattle.choice.specs.Pick.{pick}
+use Rattle.choice.proofs.Branch.{by-test, taken, left}
+use Rattle.sets.specs.Set.{has, switched}
+use Rattle.sets.proofs.Members.{has-none}
+use Rattle.sets.proofs.Switches.{switched-same, switched-other, switched-lt}
+use Rattle.lists.specs.Tac.{count, idAt, eAt, stood, after, tacList, First}
+use Rattle.lists.proofs.Turn.{stood-found}
+
+-- where no element has the identifier, it did not stand
+stood-none : (v : List ℕ) (n i : ℕ) → ((j : ℕ) → j < i → idAt v j ≡ n → ⊥) → stood v n i ≡ false
+unfolding stood
+stood-none v n zero f = refl
+stood-none v n (suc i) f = simp (ne-eqb _ _ (f i (omega arith))) (stood-none v n i (λ j h. f j (omega arith)))
+
+module _ (v : List ℕ) (opening : Bool) (s n : ℕ) (least : 1 ≤ n) (most : n ≤ 13) where
+  inSet : ℕ → Bool
+  inSet i = has (after v opening s i) (n - 1)
+
+  -- an element that names another application, or one that stood, does not touch n
+  keeps : (i : ℕ) → (idAt v i ≡ n → stood v n i ≡ true) → inSet (suc i) ≡ inSet i
+  unfolding inSet after
+  keeps i f = go (ℕ-discrete (idAt v i) n)
+    where
+      same : ℕ → Type 0
+      same x = has x (n - 1) ≡ has (after v opening s i) (n - 1)
+
+      go : Dec (idAt v i ≡ n) → inSet (suc i) ≡ inSet i
+      go (yes p) = ap (λ (x : ℕ). has x (n - 1)) (taken _ _ (rw p (f p)))
+      go (no p) = by-test same (λ _. refl) (λ _. switched-other 13 (after v opening s i) (idAt v i) (opening || eAt v i) (n - 1) (λ e. p (omega arith)))
+
+  -- the first element that names n says whether it is in the set
+  says : (i : ℕ) → idAt v i ≡ n → stood v n i ≡ false → inSet (suc i) ≡ (opening || eAt v i)
+  unfolding inSet after
+  says i p e =
+      ap (λ (x : ℕ). has x (n - 1)) (left _ _ (rw p e) ∙ ap (λ (m : ℕ). switched 13 (after v opening s i) m (opening || eAt v i)) p)
+      ∙ switched-same 13 (after v opening s i) n (opening || eAt v i) least most
+
+  first-among : (i j : ℕ) → j < i → First v n j → inSet i ≡ (opening || eAt v j)
+  first-among zero j h d = absurd (omega arith)
+  first-among (suc i) j h d = go (λ l. first-among i j l d) (decLt j i)
+    where
+      go : (j < i → inSet i ≡ (opening || eAt v j)) → Dec (j < i) → inSet (suc i) ≡ (opening || eAt v j)
+      go f (yes l) = keeps i (λ _. stood-found v n j i l (d .named)) ∙ f l
+      go f (no l) = let e : j ≡ i = omega arith in rw e (says i (rw e at (d .named)) (stood-none v n i (rw e at (d .before))))
+
+  none-among : (i : ℕ) → ((j : ℕ) → j < i → idAt v j ≡ n → ⊥) → inSet i ≡ has s (n - 1)
+  unfolding inSet after
+  none-among zero f = refl
+  none-among (suc i) f = keeps i (λ p. absurd (f i (omega arith) p)) ∙ none-among i (λ j h. f j (omega arith))
+
+  pub first-decides : (i : ℕ) → i < count v → First v n i → has (tacList v opening s) (n - 1) ≡ (opening || eAt v i)
+  unfolding tacList inSet
+  first-decides i h d = first-among (count v) i h d
+
+  pub absent-stays : ((i : ℕ) → i < count v → idAt v i ≡ n → ⊥) → has (tacList v opening s) (n - 1) ≡ has s (n - 1)
+  unfolding tacList inSet
+  absent-stays f = none-among (count v) f
+
+-- ---- Initialization: "the peer's list is every known TA-Id present"
+module _ (v : List ℕ) (n : ℕ) (least : 1 ≤ n) (most : n ≤ 13) where
+  present : (i : ℕ) → has (after v true 0 i) (n - 1) ≡ stood v n i
+  unfolding after stood inSet
+  present zero = has-none (n - 1)
+  present (suc i) = go (ℕ-discrete (idAt v i) n) (stood v n i) refl (present i)
+    where
+      go : Dec (idAt v i ≡ n) → (x : Bool) → stood v n i ≡ x → has (after v true 0 i) (n - 1) ≡ stood v n i
+          → has (after v true 0 (suc i)) (n - 1) ≡ (eqb (idAt v i) n || stood v n i)
+      go (yes p) true q h = keeps v true 0 n least most i (λ _. q) ∙ h ∙ q ∙ sym (ap (λ (b : Bool). b || stood v n i) (eq-eqb _ _ p))
+      go (yes p) false q h = says v true 0 n least most i p q ∙ sym (ap (λ (b : Bool). b || stood v n i) (eq-eqb _ _ p))
+      go (no p) x q h = keeps v true 0 n least most i (λ e. absurd (p e)) ∙ h ∙ sym (ap (λ (b : Bool). b || stood v n i) (ne-eqb _ _ p))
+
+  pub listed-present : has (tacList v true 0) (n - 1) ≡ stood v n (count v)
+  unfolding tacList
+  listed-present = present (count v)
+
+-- ---- no bits beyond the applications
+after-lt : (v : List ℕ) (opening : Bool) (s : ℕ) → s < 2 ^ 13 → (i : ℕ) → after v opening s i < 2 ^ 13
+unfolding after
+after-lt v opening s h zero = h
+after-lt v opening s h (suc i) =
+    let t : after v opening s i < 2 ^ 13 = after-lt v opening s h i in
+    by-test (λ (x : ℕ). x < 2 ^ 13) (λ _. t) (λ _. switched-lt 13 (after v opening s i) (idAt v i) (opening || eAt v i) 13 (omega arith) t)
+
+pub tac-list-lt : (v : List ℕ) (opening : Bool) (s : ℕ) → s < 2 ^ 13 → tacList v opening s < 2 ^ 13
+unfolding tacList
+tac-list-lt v opening s h = after-lt v opening s h (count v)

@@ -1,0 +1,80 @@
+-- Of the elements of a SAC that do anything to an App the later one holds; an App that no element does anything to stays as it was; and no bits
+-- come beyond the four Apps. By induction over the elements. Assumes nothing.
+use Prim.Native.Nat.{ℕ, zero, suc, _+_, _-_, _^_, _<_, _≤_}
+use native.Mathlib.Omega.{arith}
+use native.Mathlib.Decide.{ℕ-discrete, decLt}
+use mathlib.Core.Path.{_≡_, _∙_, sym, ap, refl}
+use mathlib.Core.List.{List}
+use mathlib.Core.Bool.{Bool, true, false, not, _&&_, true≢false, false≢true}
+use lib.ListN.{length}
+use lib.Dec.{eqb}
+use borrow.Author.Tests.{eqb-true, eq-eqb, ne-eqb}
+use Rattle.choice.specs.Pick.{pick}
+use Rattle.choice.proofs.Branch.{by-test, taken, left}
+use Rattle.sets.specs.Set.{has, switched}
+use Rattle.sets.proofs.Switches.{switched-same, switched-other, switched-lt}
+use Rattle.lists.specs.Sac.{dOf, appOf, idle, sacElement, elementAt, sacAfter, sacList, acts, Last}
+
+and-left : (x y : Bool) → (x && y) ≡ true → x ≡ true
+and-left true y h = refl
+and-left false y h = h
+
+and-not-right : (x y : Bool) → (x && not y) ≡ true → y ≡ false
+and-not-right true true h = absurd (false≢true h)
+and-not-right true false h = refl
+and-not-right false y h = absurd (false≢true h)
+
+module _ (opening : Bool) (n : ℕ) (least : 1 ≤ n) (most : n ≤ 4) where
+  does : (s x : ℕ) → acts opening n x ≡ true → has (sacElement opening s x) (n - 1) ≡ dOf x
+  unfolding acts sacElement
+  does s x h =
+      let app : appOf x ≡ n = eqb-true (appOf x) n (and-left _ _ h) in
+      ap (λ (t : ℕ). has t (n - 1)) (left _ _ (and-not-right (eqb (appOf x) n) (idle opening x) h) ∙ ap (λ (m : ℕ). switched 4 s m (dOf x)) app)
+      ∙ switched-same 4 s n (dOf x) least most
+
+  does-not : (s x : ℕ) → (acts opening n x ≡ true → ⊥) → has (sacElement opening s x) (n - 1) ≡ has s (n - 1)
+  unfolding acts sacElement
+  does-not s x h =
+      by-test (λ (t : ℕ). has t (n - 1) ≡ has s (n - 1)) (λ _. refl)
+      (λ q. switched-other 4 s (appOf x) (dOf x) (n - 1) (λ e. let app : appOf x ≡ n = omega arith in h (ap (λ (b : Bool). b && not (idle opening x)) (eq-eqb _ _ app) ∙ ap not q)))
+
+  module _ (v : List ℕ) (s : ℕ) where
+    last-among : (i j : ℕ) → Last v opening n i j → has (sacAfter v opening s i) (n - 1) ≡ dOf (elementAt v j)
+    unfolding sacAfter
+    last-among zero j l = absurd (omega (arith, l .among))
+    last-among (suc i) j l = go (λ h. last-among i j (shorter h)) (decLt j i)
+      where
+        shorter : j < i → Last v opening n i j
+        shorter h = record { among = h; does = l .does; behind = λ k p q. l .behind k p (omega arith) }
+
+        go : (j < i → has (sacAfter v opening s i) (n - 1) ≡ dOf (elementAt v j)) → Dec (j < i)
+            → has (sacElement opening (sacAfter v opening s i) (elementAt v i)) (n - 1) ≡ dOf (elementAt v j)
+        go f (yes h) = does-not (sacAfter v opening s i) (elementAt v i) (l .behind i h (omega arith)) ∙ f h
+        go f (no h) =
+            let e : j ≡ i = omega (arith, l .among) in
+            rw e (does (sacAfter v opening s i) (elementAt v i) (rw e at (l .does)))
+
+    none-among : (i : ℕ) → ((k : ℕ) → k < i → acts opening n (elementAt v k) ≡ true → ⊥) → has (sacAfter v opening s i) (n - 1) ≡ has s (n - 1)
+    unfolding sacAfter
+    none-among zero f = refl
+    none-among (suc i) f = does-not (sacAfter v opening s i) (elementAt v i) (f i (omega arith)) ∙ none-among i (λ k h. f k (omega arith))
+
+    pub later-holds : (j : ℕ) → Last v opening n (length v - 1) j → has (sacList v opening s) (n - 1) ≡ dOf (elementAt v j)
+    unfolding sacList
+    later-holds j l = last-among (length v - 1) j l
+
+    pub idle-stays : ((k : ℕ) → k < length v - 1 → acts opening n (elementAt v k) ≡ true → ⊥) → has (sacList v opening s) (n - 1) ≡ has s (n - 1)
+    unfolding sacList
+    idle-stays f = none-among (length v - 1) f
+
+-- ---- no bits beyond the Apps
+after-lt : (v : List ℕ) (opening : Bool) (s : ℕ) → s < 2 ^ 4 → (i : ℕ) → sacAfter v opening s i < 2 ^ 4
+unfolding sacAfter sacElement
+after-lt v opening s h zero = h
+after-lt v opening s h (suc i) =
+    let t : sacAfter v opening s i < 2 ^ 4 = after-lt v opening s h i in
+    by-test (λ (x : ℕ). x < 2 ^ 4) (λ _. t) (λ _. switched-lt 4 (sacAfter v opening s i) (appOf (elementAt v i)) (dOf (elementAt v i)) 4 (omega arith) t)
+
+pub sac-list-lt : (v : List ℕ) (opening : Bool) (s : ℕ) → s < 2 ^ 4 → sacList v opening s < 2 ^ 4
+unfolding sacList
+sac-list-lt v opening s h = after-lt v opening s h (length v - 1)

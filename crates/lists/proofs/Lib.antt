@@ -1,0 +1,5 @@
+pub mod Turn
+pub mod First
+pub mod Later
+pub mod Determined
+pub mod Examples

@@ -1,0 +1,5 @@
+pub mod Members
+pub mod Bounds
+pub mod Subsets
+pub mod Switches
+pub mod Determined

@@ -1,0 +1,88 @@
+-- A set inside another: what the operations keep, when a set is empty, and that the test `within` says it of the members. Each law goes by
+-- members. Assumes nothing.
+use mathlib.Core.Path.{_≡_, refl, sym, ap, _∙_}
+use mathlib.Core.Bool.{Bool, true, false, not, _&&_, _||_, true≢false, and-false}
+use Prim.Native.Nat.{ℕ, zero, suc, _^_, _<_}
+use native.Mathlib.Nat.{pow-suc}
+use native.Mathlib.Omega.{arith}
+use native.Mathlib.Decide.{ℕ-discrete}
+use lib.Dec.{lit<}
+use lib.Pow.{pow-pos}
+use borrow.Author.Tests.{eqb-true, eq-eqb}
+use Rattle.sets.specs.Set.{has, common, union, minus, with, without, empty, within, Within}
+use Rattle.sets.proofs.Members.{has-common, has-union, has-minus, has-none, ext, has-with-same, has-with-other, has-without-same, has-without-other}
+
+pub within-self : (a : ℕ) → Within a a
+within-self a k h = h
+
+pub within-none : (a : ℕ) → Within 0 a
+within-none a k h = absurd (true≢false (sym h ∙ has-none k))
+
+-- an operation that keeps `true` in its first place keeps subsets
+module _ (op : ℕ → ℕ → ℕ) (f : Bool → Bool → Bool) (has-op : (a b k : ℕ) → has (op a b) k ≡ f (has a k) (has b k))
+    (off : (y : Bool) → f false y ≡ true → ⊥) where
+  within-op : (a b c : ℕ) → Within a b → Within (op a c) (op b c)
+  within-op a b c h k q = has-op b c k ∙ go (has a k) refl (sym (has-op a c k) ∙ q)
+    where
+      go : (x : Bool) → has a k ≡ x → f x (has c k) ≡ true → f (has b k) (has c k) ≡ true
+      go true e p = rw (h k e) p
+      go false e p = absurd (off (has c k) p)
+
+pub within-common : (a b c : ℕ) → Within a b → Within (common a c) (common b c)
+within-common = within-op common _&&_ has-common (λ y e. true≢false (sym e))
+
+pub within-minus : (a b c : ℕ) → Within a b → Within (minus a c) (minus b c)
+within-minus = within-op minus (λ x y. x && not y) has-minus (λ y e. true≢false (sym e))
+
+pub within-union : (a b c d : ℕ) → Within a c → Within b d → Within (union a b) (union c d)
+within-union a b c d f g k h = has-union c d k ∙ go (has a k) refl (sym (has-union a b k) ∙ h)
+  where
+    go : (x : Bool) → has a k ≡ x → (x || has b k) ≡ true → (has c k || has d k) ≡ true
+    go true e p = rw (f k e) refl
+    go false e p = right (has c k) (g k p)
+      where
+        right : (y : Bool) → has d k ≡ true → (y || has d k) ≡ true
+        right true q = refl
+        right false q = q
+
+-- ---- the empty set
+lt-pow : (n : ℕ) → n < 2 ^ n
+lt-pow zero = lit< tt
+lt-pow (suc n) = let h : n < 2 ^ n = lt-pow n in rw pow-suc (omega arith)
+
+-- a set without a member is empty
+pub no-member : (a : ℕ) → ((k : ℕ) → has a k ≡ true → ⊥) → a ≡ 0
+no-member a f = ext a a 0 (lt-pow a) (pow-pos a) (λ k lt. go k (has a k) refl ∙ sym (has-none k))
+  where
+    go : (k : ℕ) (x : Bool) → has a k ≡ x → has a k ≡ false
+    go k true e = absurd (f k e)
+    go k false e = e
+
+-- an empty set has no member, and one that has none is empty
+pub empty-is : (a : ℕ) → empty a ≡ true → a ≡ 0
+unfolding empty
+empty-is a = eqb-true a 0
+
+pub empty-lacks : (a k : ℕ) → empty a ≡ true → has a k ≡ false
+empty-lacks a k h = ap (λ (s : ℕ). has s k) (empty-is a h) ∙ has-none k
+
+pub lacks-empty : (a : ℕ) → ((k : ℕ) → has a k ≡ true → ⊥) → empty a ≡ true
+unfolding empty
+lacks-empty a f = eq-eqb a 0 (no-member a f)
+
+-- ---- the test says it of the members
+and-not : (x y : Bool) → (x ≡ true → y ≡ true) → x && not y ≡ true → ⊥
+and-not true y f h = true≢false (sym (rw (f refl) at h))
+and-not false y f h = true≢false (sym h)
+
+pub within-holds : (a b : ℕ) → Within a b → within a b ≡ true
+unfolding within
+within-holds a b f = lacks-empty (minus a b) (λ k h. and-not (has a k) (has b k) (f k) (sym (has-minus a b k) ∙ h))
+
+pub within-means : (a b : ℕ) → within a b ≡ true → Within a b
+unfolding within
+within-means a b h k q = go (has b k) refl
+  where
+    go : (y : Bool) → has b k ≡ y → has b k ≡ true
+    go true e = e
+    go false e = absurd (true≢false (sym (has-minus a b k ∙ ap (λ (x : Bool). x && not (has b k)) q ∙ ap not e) ∙ empty-lacks (minus a b) k h))

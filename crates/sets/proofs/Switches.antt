@@ -1,0 +1,53 @@
+-- A number of 1 to w switched on or off in a set: it is then in the set or not, every other stays as it was, and no bits come beyond the
+-- width. From the laws of one member more or less. Assumes nothing.
+use mathlib.Core.Path.{_≡_, refl, ap, _∙_}
+use mathlib.Core.Bool.{Bool, true, false, _&&_, false≢true}
+use Prim.Native.Nat.{ℕ, _+_, _-_, _^_, _<_, _≤_}
+use native.Mathlib.Omega.{arith}
+use lib.Dec.{leb}
+use borrow.Author.Tests.{le-leb, leb-true}
+use Rattle.choice.specs.Pick.{pick}
+use Rattle.choice.proofs.Branch.{by-test, pick-true, pick-false}
+use Rattle.sets.specs.Set.{has, with, without, numbered, switched}
+use Rattle.sets.proofs.Members.{has-with-same, has-with-other, has-without-same, has-without-other}
+use Rattle.sets.proofs.Bounds.{with-lt, without-lt}
+
+pub numbered-is : (w n : ℕ) → numbered w n ≡ true → (1 ≤ n) × (n ≤ w)
+unfolding numbered
+numbered-is w n h = go (leb 1 n) refl
+  where
+    go : (x : Bool) → leb 1 n ≡ x → (1 ≤ n) × (n ≤ w)
+    go true e = (leb-true 1 n e, leb-true n w (rw e at h))
+    go false e = absurd (false≢true (rw e at h))
+
+pub is-numbered : (w n : ℕ) → 1 ≤ n → n ≤ w → numbered w n ≡ true
+unfolding numbered
+is-numbered w n l h = simp (le-leb _ _ l, le-leb _ _ h)
+
+module _ (w s n : ℕ) (on : Bool) where
+  pub switched-same : 1 ≤ n → n ≤ w → has (switched w s n on) (n - 1) ≡ on
+  unfolding switched
+  switched-same l h = simp (is-numbered w n l h, pick-true) (go on)
+    where
+      go : (on : Bool) → has (pick on (with s (n - 1)) (without s (n - 1))) (n - 1) ≡ on
+      go true = rw pick-true (has-with-same s (n - 1))
+      go false = rw pick-false (has-without-same s (n - 1))
+
+  pub switched-other : (k : ℕ) → (n ≡ k + 1 → ⊥) → has (switched w s n on) k ≡ has s k
+  unfolding switched
+  switched-other k h =
+      by-test same (λ q. let l = numbered-is w n q in
+      by-test same (λ _. has-with-other s (n - 1) k (omega arith)) (λ _. has-without-other s (n - 1) k (omega arith)))
+      (λ _. refl)
+    where
+      same : ℕ → Type 0
+      same x = has x k ≡ has s k
+
+  pub switched-lt : (v : ℕ) → w ≤ v → s < 2 ^ v → switched w s n on < 2 ^ v
+  unfolding switched
+  switched-lt v g h =
+      by-test small (λ q. let l = numbered-is w n q in by-test small (λ _. with-lt v s (n - 1) h (omega arith)) (λ _. without-lt v s (n - 1) h))
+      (λ _. h)
+    where
+      small : ℕ → Type 0
+      small x = x < 2 ^ v

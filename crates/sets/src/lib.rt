@@ -1,0 +1,74 @@
+// Sets of small numbers, as the binary digits of an unsigned number. Every set of the product goes through these: a narrower one is
+// widened on its way in.
+ghost use mathlib.Core.Path.{_≡_};
+ghost use Prim.Native.Nat.{_<_, _≤_};
+ghost use Rattle.sets.specs.Set.{has, common, union, minus, with, without, numbered, switched};
+
+// Whether k is in the set.
+pub fn has(s: u16, k: u16) -> bool
+    ensures { λ r. ⌜ r ≡ has s k ⌝ }
+{
+    if 16 <= k {
+        return false;
+    }
+    (s >> k) % 2 == 1
+}
+
+// What is in both.
+pub fn common(a: u16, b: u16) -> u16
+    ensures { λ r. ⌜ r ≡ common a b ⌝ }
+{
+    a & b
+}
+
+// What is in either.
+pub fn union(a: u16, b: u16) -> u16
+    ensures { λ r. ⌜ r ≡ union a b ⌝ }
+{
+    a | b
+}
+
+// What is in the first and not in the second.
+pub fn minus(a: u16, b: u16) -> u16
+    ensures { λ r. ⌜ r ≡ minus a b ⌝ }
+{
+    a ^ (a & b)
+}
+
+fn with(s: u16, k: u16) -> u16
+    requires { ⌜ k < 16 ⌝ }
+    ensures { λ r. ⌜ r ≡ with s k ⌝ }
+{
+    union(s, 1u16 << k)
+}
+
+fn without(s: u16, k: u16) -> u16
+    requires { ⌜ k < 16 ⌝ }
+    ensures { λ r. ⌜ r ≡ without s k ⌝ }
+{
+    minus(s, 1u16 << k)
+}
+
+// Whether n is one of the numbers 1 to w. In a set of them n stands at place n - 1.
+pub fn numbered(w: u16, n: u16) -> bool
+    ensures { λ r. ⌜ r ≡ numbered w n ⌝ }
+{
+    if n < 1 {
+        return false;
+    }
+    n <= w
+}
+
+// The number n of 1 to w switched on or off; any other number changes nothing.
+pub fn switched(w: u16, s: u16, n: u16, on: bool) -> u16
+    requires { ⌜ w ≤ 16 ⌝ }
+    ensures { λ r. ⌜ r ≡ switched w s n on ⌝ }
+{
+    if numbered(w, n) {
+        if on {
+            return with(s, n - 1);
+        }
+        return without(s, n - 1);
+    }
+    s
+}
