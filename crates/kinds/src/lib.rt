@@ -6,10 +6,10 @@ ghost use Rattle.sets.specs.Set.{has, union, switched};
 ghost use Rattle.kinds.specs.Kinds.{knownApplication, opens, controlled, opened, disables};
 
 // A targeted application by its number, as TAC has it.
-pub struct TaId(pub u16);
+pub struct TaId(pub u32);
 
 // A SAC application by its number. The same number means another thing than in a TaId.
-pub struct SacApp(pub u16);
+pub struct SacApp(pub u32);
 
 // The kinds of each targeted application, TA-Id 1 to 13, kind k at bit k. That of 8, Session Protection, is the session's own.
 const ROWS: [u16; 13] = [1, 2, 124, 1, 2, 128, 256, 0, 0, 512, 124, 1, 2];
@@ -18,9 +18,9 @@ const ROWS: [u16; 13] = [1, 2, 124, 1, 2, 128, 256, 0, 0, 512, 124, 1, 2];
 const CONTROLS: [u16; 4] = [1, 2, 128, 256];
 
 impl TaId {
-    pub const COUNT: u16 = 13;
+    pub const COUNT: u32 = 13;
 
-    const SESSION_PROTECTION: u16 = 8;
+    const SESSION_PROTECTION: u32 = 8;
 
     pub fn is_known(self) -> bool
         ensures { λ r. ⌜ r ≡ knownApplication (self .0) ⌝ }
@@ -52,7 +52,7 @@ impl TaId {
 }
 
 impl SacApp {
-    pub const COUNT: u16 = 4;
+    pub const COUNT: u32 = 4;
 
     // The set of Apps with this one switched on or off; an unknown one changes nothing.
     pub fn switched(self, apps: u8, on: bool) -> u8
@@ -67,7 +67,7 @@ impl SacApp {
         ensures { λ r. ⌜ r ≡ pick (has apps (self .0 - 1)) (controlled (self .0)) 0 ⌝ }
     {
         let i = self.0 - 1;
-        if sets::has(apps, i) {
+        if sets::has(apps, i as u16) {
             return CONTROLS[i as usize];
         }
         0
@@ -79,7 +79,7 @@ pub fn opened(applications: u16, protects: u16) -> u16
     ensures { λ r. ⌜ r ≡ opened protects applications ⌝ }
 {
     let mut kinds: u16 = 0;
-    for i in 0..TaId::COUNT {
+    for i in 0..13 {
         kinds = with_row(kinds, applications, i, protects);
     }
     kinds
@@ -91,7 +91,7 @@ fn with_row(kinds: u16, applications: u16, i: u16, protects: u16) -> u16
     ensures { λ r. ⌜ r ≡ union kinds (pick (has applications i) (opens protects (i + 1)) 0) ⌝ }
 {
     if sets::has(applications, i) {
-        return sets::union(kinds, TaId(i + 1).row(protects));
+        return sets::union(kinds, TaId((i + 1) as u32).row(protects));
     }
     kinds
 }

@@ -57,7 +57,7 @@ pub fn tac_list(value: &[u8], opening: bool, listed: u16) -> u16
                 continue 'elements;
             }
         }
-        set = TaId(id).switched(set, adds(value, opening, i));
+        set = TaId(id as u32).switched(set, adds(value, opening, i));
     }
     set
 }
@@ -66,7 +66,7 @@ pub fn tac_list(value: &[u8], opening: bool, listed: u16) -> u16
 fn sac_element(opening: bool, disabled: u8, x: u8) -> u8
     ensures { λ r. ⌜ r ≡ sacElement opening disabled x ⌝ }
 {
-    let app = (x / 16 % 8) as u16;
+    let app = (x / 16 % 8) as u32;
     if 128 <= x {
         return SacApp(app).switched(disabled, true);
     }

@@ -50,7 +50,7 @@ fn without(s: u16, k: u16) -> u16
 }
 
 // Whether n is one of the numbers 1 to w. In a set of them n stands at place n - 1.
-pub fn numbered(w: u16, n: u16) -> bool
+pub fn numbered(w: u32, n: u32) -> bool
     ensures { λ r. ⌜ r ≡ numbered w n ⌝ }
 {
     if n < 1 {
@@ -60,15 +60,15 @@ pub fn numbered(w: u16, n: u16) -> bool
 }
 
 // The number n of 1 to w switched on or off; any other number changes nothing.
-pub fn switched(w: u16, s: u16, n: u16, on: bool) -> u16
+pub fn switched(w: u32, s: u16, n: u32, on: bool) -> u16
     requires { ⌜ w ≤ 16 ⌝ }
     ensures { λ r. ⌜ r ≡ switched w s n on ⌝ }
 {
     if numbered(w, n) {
         if on {
-            return with(s, n - 1);
+            return with(s, (n - 1) as u16);
         }
-        return without(s, n - 1);
+        return without(s, (n - 1) as u16);
     }
     s
 }

@@ -30,9 +30,7 @@ loop-less c = omega arith
 
 loop-again : tie.Need-loop-again Inv-loop μ-loop
 loop-again c =
-    let l = c .before .before .loop in
-    let a = c .before .before .before .args in
-    (omega arith, c .with-row .ensures ∙ ap (λ (k : ℕ). union k (pick (has (a .applications) (l .i)) (opens (a .protects) (l .i + 1)) 0)) (l .inv .1) ∙ sym (gather-more (opens (a .protects)) (l .i) (a .applications)))
+    (omega arith, c .with-row .ensures ∙ rw (c .before .before .loop .inv .1) (sym (gather-more _ _ _)))
 
 returns : tie.Need-returns Inv-loop μ-loop
 unfolding opened

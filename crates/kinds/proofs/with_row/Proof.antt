@@ -13,6 +13,9 @@ has-requires c κs = search needs
 add-t7 : tie.Need-add-t7
 add-t7 c = search needs
 
+cast-t8 : tie.Need-cast-t8
+cast-t8 c = search needs
+
 row-requires : tie.Need-row-requires
 row-requires c κs = search needs
 
@@ -27,4 +30,4 @@ returns-2 c = sym (ap (union (c .before .before .args .kinds)) (left _ _ (sym (c
 
 pub with-row-spec : {M : Type 1} → statement M
 with-row-spec =
-    tie.close (tie.spec has-requires add-t7 row-requires union-requires returns returns-2)
+    tie.close (tie.spec has-requires add-t7 cast-t8 row-requires union-requires returns returns-2)

@@ -65,6 +65,9 @@ loop-again c =
     let i = c .before .before .before .loop .inv in
     (i .0, omega arith, stood-more _ _ _ (λ e. c .if1 .left (c .before .id-at2 .ensures ∙ e)) (i .2))
 
+cast-t12 : tie.Need-cast-t12 Inv-loop μ-loop Inv-elements μ-elements
+cast-t12 c = search needs
+
 adds-requires : tie.Need-adds-requires Inv-loop μ-loop Inv-elements μ-elements
 adds-requires c κs = omega arith
 
@@ -111,6 +114,7 @@ tac-list-spec =
     add-j
     loop-less
     loop-again
+    cast-t12
     adds-requires
     switched-requires
     add-i-2

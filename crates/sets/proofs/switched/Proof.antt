@@ -14,6 +14,9 @@ numbered-requires c κs = search needs
 sub-with : tie.Need-sub-with
 sub-with c = numbered-is _ _ (sym (c .before .before .numbered .ensures) ∙ c .before .if1 .taken) .0
 
+cast-with : tie.Need-cast-with
+cast-with c = omega (arith, numbered-is _ _ (sym (c .before .before .numbered .ensures) ∙ c .before .if1 .taken))
+
 with-requires : tie.Need-with-requires
 with-requires c κs = omega (arith, numbered-is _ _ (sym (c .before .before .numbered .ensures) ∙ c .before .if1 .taken))
 
@@ -23,6 +26,9 @@ returns c = c .with .ensures ∙ sym (taken _ _ (sym (c .before .before .before 
 
 sub-without : tie.Need-sub-without
 sub-without c = numbered-is _ _ (sym (c .before .before .numbered .ensures) ∙ c .before .if1 .taken) .0
+
+cast-without : tie.Need-cast-without
+cast-without c = omega (arith, numbered-is _ _ (sym (c .before .before .numbered .ensures) ∙ c .before .if1 .taken))
 
 without-requires : tie.Need-without-requires
 without-requires c κs = omega (arith, numbered-is _ _ (sym (c .before .before .numbered .ensures) ∙ c .before .if1 .taken))
@@ -41,9 +47,11 @@ switched-spec =
     (tie.spec
     numbered-requires
     sub-with
+    cast-with
     with-requires
     returns
     sub-without
+    cast-without
     without-requires
     returns-2
     returns-3)

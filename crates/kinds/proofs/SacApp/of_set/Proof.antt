@@ -14,6 +14,9 @@ use Rattle.kinds.proofs.SacApp.of_set.Tie as tie
 sub-i : tie.Need-sub-i
 sub-i c = search needs
 
+cast-has : tie.Need-cast-has
+cast-has c = search needs
+
 has-requires : tie.Need-has-requires
 has-requires c κs = search needs
 
@@ -36,4 +39,12 @@ returns-2 c = sym (left _ _ (sym (c .before .has .ensures) ∙ c .if1 .left))
 pub of-set-spec : {M : Type 1} → statement M
 of-set-spec =
     tie.close
-    (tie.spec sub-i has-requires cast-result mul-result array-read-result returns returns-2)
+    (tie.spec
+    sub-i
+    cast-has
+    has-requires
+    cast-result
+    mul-result
+    array-read-result
+    returns
+    returns-2)

@@ -1,0 +1,49 @@
+-- What we write is read as we meant it: the last 9 octets of a message are an area with one TAC and nothing else, whose S is 1 and whose list
+-- switches exactly that application on or off. The octets that do not depend on the application are computed. Assumes nothing.
+use Prim.Native.Nat.{ℕ, _+_, _*_, _/_, _%_, _<_}
+use mathlib.Core.Path.{_≡_, refl, ap, ap₂, _∙_}
+use mathlib.Core.List.{List, [], _∷_}
+use mathlib.Core.Bool.{Bool, true, false}
+use lib.ListN.{drop}
+use lib.Dec.{leb}
+use Rattle.choice.specs.Pick.{pick}
+use Rattle.octets.specs.Octets.{be16}
+use Rattle.octets.proofs.Numbers.{forth16}
+use Rattle.sets.specs.Set.{switched}
+use Rattle.area.specs.declared.Reading.{Reading}
+use Rattle.area.specs.Area.{none, at16, fault, taken, takeTac, takeSac, takeDynamic, passOther, byType, tlvAt, readFrom, readArea, part}
+use Rattle.lists.specs.Tac.{sBit, idAt, eAt, stood, after, tacList}
+use Rattle.message.specs.Message.{eOctet, tacOctets, messageOf}
+
+-- the reading of such an area: a TAC of 5 octets from the fifth on, and nothing else
+abbrev pub oneTac : Reading
+oneTac = record { refusal = 0; tac = record { start = 4; len = 5 }; sac = none; dynamic = false }
+
+-- its value
+abbrev pub oneElement : ℕ → Bool → List ℕ
+oneElement n on = 0x80 ∷ n / 256 % 256 ∷ n % 256 ∷ eOctet on ∷ 0 ∷ []
+
+module _ (number n : ℕ) (on : Bool) where
+  pub last-nine : drop 8 (messageOf number n on) ≡ tacOctets n on
+  last-nine = refl
+
+  pub read-back : readArea (tacOctets n on) ≡ oneTac
+  unfolding pick at16 fault taken takeTac takeSac takeDynamic passOther byType tlvAt readFrom readArea
+  read-back = refl
+
+  pub value-back : part (tacOctets n on) (oneTac .tac) ≡ oneElement n on
+  unfolding part
+  value-back = refl
+
+e-back : (on : Bool) → leb 128 (eOctet on) ≡ on
+unfolding eOctet pick
+e-back true = refl
+e-back false = refl
+
+pub s-back : (n : ℕ) (on : Bool) → sBit (oneElement n on) ≡ true
+unfolding sBit
+s-back n on = refl
+
+pub list-back : (n : ℕ) (on : Bool) (s : ℕ) → n < 65536 → tacList (oneElement n on) false s ≡ switched 13 s n on
+unfolding tacList after stood idAt eAt pick
+list-back n on s h = ap₂ (λ (m : ℕ) (b : Bool). switched 13 s m b) (forth16 n h) (e-back on)

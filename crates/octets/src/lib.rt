@@ -1,0 +1,50 @@
+// Octets put over the front of lent ones, and the numbers that octets of a record hold.
+ghost use mathlib.Core.Path.{_≡_};
+ghost use Prim.Native.Nat.{_+_, _<_, _≤_};
+ghost use lib.ListN.{length};
+ghost use Rattle.octets.specs.Octets.{leAt16, leAt32, over};
+
+// Puts `written` over the front of the room; what lies beyond stays, and without enough room all of it does.
+pub fn put(room: &mut [u8], written: &[u8])
+    ensures { λ _. ⌜ now (room .exit) ≡ over (now (written .entry)) (now (room .entry)) ⌝ }
+{
+    if room.len() < written.len() {
+        return;
+    }
+    let mut i = 0;
+    while i < written.len() {
+        room[i] = written[i];
+        i += 1;
+    }
+}
+
+fn wide16(x: u8) -> u16
+    ensures { λ r. ⌜ (r ≡ x) × (r ≤ 255) ⌝ }
+{
+    x as u16
+}
+
+fn wide32(x: u8) -> u32
+    ensures { λ r. ⌜ (r ≡ x) × (r ≤ 255) ⌝ }
+{
+    x as u32
+}
+
+// Two octets, least significant first.
+pub fn read16(octets: &[u8], at: usize) -> u16
+    requires { ⌜ at + 1 < length (now octets) ⌝ }
+    ensures { λ r. ⌜ r ≡ leAt16 (now (octets .entry)) at ⌝ }
+{
+    wide16(octets[at]) + 256 * wide16(octets[at + 1])
+}
+
+// Four octets, least significant first.
+pub fn read32(octets: &[u8], at: usize) -> u32
+    requires { ⌜ at + 3 < length (now octets) ⌝ }
+    ensures { λ r. ⌜ r ≡ leAt32 (now (octets .entry)) at ⌝ }
+{
+    wide32(octets[at])
+        + 256 * wide32(octets[at + 1])
+        + 65536 * wide32(octets[at + 2])
+        + 16777216 * wide32(octets[at + 3])
+}
