@@ -2,6 +2,7 @@
 use Rattle.choice.specs.Determined.{Determined}
 use Rattle.choice.proofs.Determined.{by-equation}
 use Rattle.kinds.proofs.TaId.is_known.Reads as is-known
+use Rattle.kinds.proofs.TaId.is_in.Reads as is-in
 use Rattle.kinds.proofs.TaId.switched.Reads as switched
 use Rattle.kinds.proofs.SacApp.switched.Reads as app-switched
 use Rattle.kinds.proofs.opened.Reads as opened
@@ -9,6 +10,9 @@ use Rattle.kinds.proofs.disables.Reads as disables
 
 pub is-known-determined : Determined (is-known.Post tt)
 is-known-determined = by-equation _
+
+pub is-in-determined : Determined (is-in.Post tt)
+is-in-determined = by-equation _
 
 pub switched-determined : Determined (switched.Post tt)
 switched-determined = by-equation _

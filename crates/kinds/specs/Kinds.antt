@@ -2,7 +2,7 @@
 -- each stands at the place one below its number, a kind at its own. Assumes nothing.
 use Prim.Native.Nat.{ℕ, zero, suc, _+_, _-_, _≤_}
 use mathlib.Core.Path.{_≡_}
-use mathlib.Core.Bool.{Bool, true}
+use mathlib.Core.Bool.{Bool, true, _&&_}
 use mathlib.Core.List.{List, [], _∷_}
 use lib.ListN.{getD}
 use lib.Dec.{eqb}
@@ -12,6 +12,10 @@ use Rattle.sets.specs.Set.{has, union, with, numbered}
 -- TA-Ids 1 to 13 are known: "any other TA-Id, 0 included, is unknown"
 abbrev pub knownApplication : ℕ → Bool
 knownApplication n = numbered 13 n
+
+-- the application n is in the set
+unfoldable pub isIn : ℕ → ℕ → Bool
+isIn applications n = knownApplication n && has applications (n - 1)
 
 -- "each row names the kinds that the application opens", TA-Id 1 to 13. Row 8, Session Protection, is the session's protected kinds
 abbrev pub rows : List (List ℕ)

@@ -3,7 +3,7 @@ ghost use mathlib.Core.Path.{_≡_};
 ghost use Prim.Native.Nat.{_+_, _-_, _<_, _≤_};
 ghost use Rattle.choice.specs.Pick.{pick};
 ghost use Rattle.sets.specs.Set.{has, union, switched};
-ghost use Rattle.kinds.specs.Kinds.{knownApplication, opens, controlled, opened, disables};
+ghost use Rattle.kinds.specs.Kinds.{knownApplication, isIn, opens, controlled, opened, disables};
 
 // A targeted application by its number, as TAC has it.
 pub struct TaId(pub u32);
@@ -26,6 +26,17 @@ impl TaId {
         ensures { λ r. ⌜ r ≡ knownApplication (self .0) ⌝ }
     {
         sets::numbered(Self::COUNT, self.0)
+    }
+
+    // Whether the application is in the set; an unknown one is in none.
+    pub fn is_in(self, applications: u16) -> bool
+        ensures { λ r. ⌜ r ≡ isIn applications (self .0) ⌝ }
+    {
+        let n = self.0;
+        if self.is_known() {
+            return sets::has(applications, (n - 1) as u16);
+        }
+        false
     }
 
     // The set of applications with this one switched on or off; an unknown one changes nothing.

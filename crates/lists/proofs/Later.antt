@@ -5,31 +5,23 @@ use native.Mathlib.Omega.{arith}
 use native.Mathlib.Decide.{ℕ-discrete, decLt}
 use mathlib.Core.Path.{_≡_, _∙_, sym, ap, refl}
 use mathlib.Core.List.{List}
-use mathlib.Core.Bool.{Bool, true, false, not, _&&_, true≢false, false≢true}
+use mathlib.Core.Bool.{Bool, true, false, not, _&&_, true≢false}
 use lib.ListN.{length}
 use lib.Dec.{eqb}
 use borrow.Author.Tests.{eqb-true, eq-eqb, ne-eqb}
 use Rattle.choice.specs.Pick.{pick}
 use Rattle.choice.proofs.Branch.{by-test, taken, left}
+use Rattle.choice.proofs.Tests.{and-first, and-second, not-false}
 use Rattle.sets.specs.Set.{has, switched}
 use Rattle.sets.proofs.Switches.{switched-same, switched-other, switched-lt}
 use Rattle.lists.specs.Sac.{dOf, appOf, idle, sacElement, elementAt, sacAfter, sacList, acts, Last}
-
-and-left : (x y : Bool) → (x && y) ≡ true → x ≡ true
-and-left true y h = refl
-and-left false y h = h
-
-and-not-right : (x y : Bool) → (x && not y) ≡ true → y ≡ false
-and-not-right true true h = absurd (false≢true h)
-and-not-right true false h = refl
-and-not-right false y h = absurd (false≢true h)
 
 module _ (opening : Bool) (n : ℕ) (least : 1 ≤ n) (most : n ≤ 4) where
   does : (s x : ℕ) → acts opening n x ≡ true → has (sacElement opening s x) (n - 1) ≡ dOf x
   unfolding acts sacElement
   does s x h =
-      let app : appOf x ≡ n = eqb-true (appOf x) n (and-left _ _ h) in
-      ap (λ (t : ℕ). has t (n - 1)) (left _ _ (and-not-right (eqb (appOf x) n) (idle opening x) h) ∙ ap (λ (m : ℕ). switched 4 s m (dOf x)) app)
+      let app : appOf x ≡ n = eqb-true (appOf x) n (and-first _ _ h) in
+      ap (λ (t : ℕ). has t (n - 1)) (left _ _ (not-false _ (and-second (eqb (appOf x) n) (not (idle opening x)) h)) ∙ ap (λ (m : ℕ). switched 4 s m (dOf x)) app)
       ∙ switched-same 4 s n (dOf x) least most
 
   does-not : (s x : ℕ) → (acts opening n x ≡ true → ⊥) → has (sacElement opening s x) (n - 1) ≡ has s (n - 1)

@@ -2,7 +2,6 @@
 ghost use mathlib.Core.Path.{_≡_};
 ghost use Rattle.octets.specs.Octets.{over};
 ghost use Rattle.message.specs.Message.{eOctet, messageOf};
-
 use kinds::TaId;
 
 // How many octets the message has.

@@ -1,0 +1,46 @@
+-- `Session::capable` meets its contract: each return by the tests that led there. Assumes nothing.
+use mathlib.Core.Path.{sym, _∙_}
+use Rattle.choice.proofs.Branch.{pick-true, pick-false}
+use Rattle.session.specs.Events.{capable}
+use borrow.Author.Needs.{needs}
+use Rattle.session.proofs.Session.capable.Statement.{statement}
+use Rattle.session.proofs.Session.capable.Tie as tie
+
+part-of-requires : tie.Need-part-of-requires
+part-of-requires c κs = search needs
+
+sac-list-requires : tie.Need-sac-list-requires
+sac-list-requires c κs = search needs
+
+takes-tac-requires : tie.Need-takes-tac-requires
+takes-tac-requires c κs = search needs
+
+part-of-requires-2 : tie.Need-part-of-requires-2
+part-of-requires-2 c κs = search needs
+
+list-after-requires : tie.Need-list-after-requires
+list-after-requires c κs = search needs
+
+flags-after-requires : tie.Need-flags-after-requires
+flags-after-requires c κs = search needs
+
+returns : tie.Need-returns
+unfolding capable
+returns c = simp (sym (c .before .before .before .before .takes-tac .ensures) ∙ c .before .before .before .if1 .taken, c .flags-after .ensures, c .before .list-after .ensures, c .before .before .part-of2 .ensures, c .before .before .before .before .before .sac-list .ensures, c .before .before .before .before .before .before .part-of .ensures, pick-true)
+
+returns-2 : tie.Need-returns-2
+unfolding capable
+returns-2 c = simp (sym (c .before .takes-tac .ensures) ∙ c .if1 .left, c .before .before .sac-list .ensures, c .before .before .before .part-of .ensures, pick-false)
+
+pub capable-spec : {M : Type 1} → statement M
+capable-spec =
+    tie.close
+    (tie.spec
+    part-of-requires
+    sac-list-requires
+    takes-tac-requires
+    part-of-requires-2
+    list-after-requires
+    flags-after-requires
+    returns
+    returns-2)

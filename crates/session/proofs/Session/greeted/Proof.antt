@@ -1,0 +1,16 @@
+-- `Session::greeted` meets its contract: by what its calls promise. Assumes nothing.
+use Rattle.choice.proofs.Branch.{pick-true}
+use Rattle.session.specs.Creation.{raised}
+use borrow.Author.Needs.{needs}
+use Rattle.session.proofs.Session.greeted.Statement.{statement}
+use Rattle.session.proofs.Session.greeted.Tie as tie
+
+raised-requires : tie.Need-raised-requires
+raised-requires c κs = search needs
+
+returns : tie.Need-returns
+unfolding raised
+returns c = simp (c .raised .ensures, pick-true)
+
+pub greeted-spec : {M : Type 1} → statement M
+greeted-spec = tie.close (tie.spec raised-requires returns)

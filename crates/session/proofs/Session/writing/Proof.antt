@@ -1,0 +1,61 @@
+-- `Session::writing` meets its contract: each return by the tests that led there. Assumes nothing.
+use mathlib.Core.Path.{sym, _∙_}
+use borrow.Author.Tests.{le-leb, lt-leb}
+use Rattle.choice.proofs.Branch.{pick-true, pick-false}
+use Rattle.session.specs.Events.{writing}
+use borrow.Author.Needs.{needs}
+use Rattle.session.proofs.Session.writing.Statement.{statement}
+use Rattle.session.proofs.Session.writing.Tie as tie
+
+is-open-requires : tie.Need-is-open-requires
+is-open-requires c κs = search needs
+
+uses-tac-requires : tie.Need-uses-tac-requires
+uses-tac-requires c κs = search needs
+
+dynamic-requires : tie.Need-dynamic-requires
+dynamic-requires c κs = search needs
+
+sent-requires : tie.Need-sent-requires
+sent-requires c κs = search needs
+
+returns : tie.Need-returns
+unfolding writing
+returns c = simp (simp (c .before .before .before .before .before .before .is-open .ensures, c .before .before .before .before .before .uses-tac .ensures) at (c .before .before .before .before .if1 .taken), sym (c .before .before .before .dynamic .ensures) ∙ c .before .before .if2 .taken, le-leb _ _ (c .before .if3 .taken), c .sent .ensures, pick-true)
+
+refused-requires : tie.Need-refused-requires
+refused-requires c κs = search needs
+
+returns-2 : tie.Need-returns-2
+unfolding writing
+returns-2 c = simp (simp (c .before .before .before .before .before .before .is-open .ensures, c .before .before .before .before .before .uses-tac .ensures) at (c .before .before .before .before .if1 .taken), sym (c .before .before .before .dynamic .ensures) ∙ c .before .before .if2 .taken, lt-leb _ _ (c .before .if3 .left), c .refused .ensures, pick-true, pick-false)
+
+refused-requires-2 : tie.Need-refused-requires-2
+refused-requires-2 c κs = search needs
+
+returns-3 : tie.Need-returns-3
+unfolding writing
+returns-3 c = simp (simp (c .before .before .before .before .before .is-open .ensures, c .before .before .before .before .uses-tac .ensures) at (c .before .before .before .if1 .taken), sym (c .before .before .dynamic .ensures) ∙ c .before .if2 .left, c .refused2 .ensures, pick-true, pick-false)
+
+answered-requires : tie.Need-answered-requires
+answered-requires c κs = search needs
+
+returns-4 : tie.Need-returns-4
+unfolding writing
+returns-4 c = simp (simp (c .before .before .before .is-open .ensures, c .before .before .uses-tac .ensures) at (c .before .if1 .left), c .answered .ensures, pick-false)
+
+pub writing-spec : {M : Type 1} → statement M
+writing-spec =
+    tie.close
+    (tie.spec
+    is-open-requires
+    uses-tac-requires
+    dynamic-requires
+    sent-requires
+    returns
+    refused-requires
+    returns-2
+    refused-requires-2
+    returns-3
+    answered-requires
+    returns-4)

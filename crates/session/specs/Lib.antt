@@ -1,0 +1,4 @@
+pub mod Session
+pub mod Creation
+pub mod Events
+pub mod Questions

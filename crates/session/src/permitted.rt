@@ -1,0 +1,22 @@
+// Which kinds of label may be sent.
+ghost use mathlib.Core.Path.{_≡_};
+ghost use Rattle.session.specs.Session.{permitted};
+use crate::Session;
+
+impl Session {
+    const ALL_KINDS: u16 = 1023;
+
+    // The permitted kinds of a session, sound or not.
+    pub fn permitted(self) -> u16
+        ensures { λ r. ⌜ r ≡ permitted self ⌝ }
+    {
+        if self.is_open() {
+            let disabled = kinds::disables(self.disabled);
+            if self.in_force() {
+                return sets::minus(kinds::opened(self.negotiated(), self.protects), disabled);
+            }
+            return sets::minus(Self::ALL_KINDS, disabled);
+        }
+        0
+    }
+}

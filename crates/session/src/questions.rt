@@ -1,0 +1,79 @@
+// The questions that change nothing. A session that is not sound is refused with 10.
+ghost use mathlib.Core.Path.{_≡_};
+ghost use Rattle.session.specs.Questions.{permittedKinds, permission, retryInterval};
+use crate::Kinds;
+use crate::Permission;
+use crate::Retry;
+use crate::Session;
+
+impl Session {
+    const LAST_KIND: u32 = 9;
+
+    const NEVER: u16 = 65535;
+
+    // The set of the kinds that may be sent.
+    pub fn permitted_kinds(self) -> Kinds
+        ensures { λ r. ⌜ r ≡ permittedKinds self ⌝ }
+    {
+        if self.sound() {
+            return Kinds {
+                refusal: 0,
+                kinds: self.permitted(),
+            };
+        }
+        Kinds {
+            refusal: 10,
+            kinds: 0,
+        }
+    }
+
+    // Whether one kind may be sent.
+    pub fn permission(self, kind: u32) -> Permission
+        ensures { λ r. ⌜ r ≡ permission self kind ⌝ }
+    {
+        if self.sound() {
+            if kind <= Self::LAST_KIND {
+                if sets::has(self.permitted(), kind as u16) {
+                    return Permission {
+                        refusal: 0,
+                        permitted: 1,
+                    };
+                }
+                return Permission {
+                    refusal: 0,
+                    permitted: 0,
+                };
+            }
+            return Permission {
+                refusal: 6,
+                permitted: 0,
+            };
+        }
+        Permission {
+            refusal: 10,
+            permitted: 0,
+        }
+    }
+
+    // How long to wait before a retry: for ever in Held, else not at all.
+    pub fn retry_interval(self) -> Retry
+        ensures { λ r. ⌜ r ≡ retryInterval self ⌝ }
+    {
+        if self.sound() {
+            if self.is_held() {
+                return Retry {
+                    refusal: 0,
+                    interval: Self::NEVER,
+                };
+            }
+            return Retry {
+                refusal: 0,
+                interval: 0,
+            };
+        }
+        Retry {
+            refusal: 10,
+            interval: 0,
+        }
+    }
+}
