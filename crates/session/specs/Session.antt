@@ -1,11 +1,12 @@
 -- One targeted session in numbers, the stored record's fields: what its state and flags say, when it is sound, what it permits, and the sessions
 -- that events make of it. Assumes nothing.
-use Prim.Native.Nat.{ℕ, _+_, _%_, _^_}
-use mathlib.Core.Bool.{Bool, not, _&&_}
+use Prim.Native.Nat.{ℕ, _+_, _-_, _%_, _^_, _≤_, _<_}
+use mathlib.Core.Path.{_≡_}
+use mathlib.Core.Bool.{Bool, true, false, not, _&&_}
 use lib.Dec.{eqb, leb}
 use Rattle.choice.specs.Pick.{pick, only}
 use Rattle.sets.specs.Set.{has, union, common, minus, empty, below, switched}
-use Rattle.kinds.specs.Kinds.{opened, disables}
+use Rattle.kinds.specs.Kinds.{opens, controlled, opened, disables, Some}
 use Rattle.session.specs.declared.Session.{Session}
 
 -- "state (1: Ready 0, Open 1, Held 2, Gone 3)"
@@ -96,6 +97,27 @@ unfoldable pub sound : Session → Bool
 sound s =
     spareZero s && (forceSound s && (listedSound s && (openSound s && (helloSound s && (heldSound s && goneSound s)))))
 
+-- the same as facts, each rule by itself
+pub record Sound (s : Session) : Type 0 where
+  pub state : s .state ≤ 3
+  pub flags : s .flags < 2 ^ 7
+  pub enabled : s .enabled < 2 ^ 13
+  pub listed : s .listed < 2 ^ 13
+  pub protects : s .protects < 2 ^ 10
+  pub disabled : s .disabled < 2 ^ 4
+  pub force-open : inForce s ≡ true → isOpen s ≡ true
+  pub force-uses : inForce s ≡ true → usesTac s ≡ true
+  pub force-common : inForce s ≡ true → empty (negotiated s) ≡ false
+  pub unforced-listed : inForce s ≡ false → s .listed ≡ 0
+  pub shut-disabled : isOpen s ≡ false → s .disabled ≡ 0
+  pub shut-dynamic : isOpen s ≡ false → dynamic s ≡ false
+  pub unrecorded-hello : recorded s ≡ false → s .hello ≡ 0
+  pub held-active : isHeld s ≡ true → active s ≡ true
+  pub held-stays : isHeld s ≡ true → leavesGone s ≡ false
+  pub gone-active : isGone s ≡ true → active s ≡ true
+  pub gone-leaves : isGone s ≡ true → leavesGone s ≡ true
+  pub gone-unrecorded : isGone s ≡ true → recorded s ≡ false
+
 -- ---- what it permits
 abbrev pub allKinds : ℕ
 allKinds = 1023
@@ -104,6 +126,21 @@ allKinds = 1023
 -- maps to. Not Open: none"
 unfoldable pub permitted : Session → ℕ
 permitted s = pick (isOpen s) (minus (pick (inForce s) (opened (s .protects) (negotiated s)) allKinds) (disables (s .disabled))) 0
+
+-- the same as facts. An application "both enabled and listed" that maps to the kind k
+pub record Negotiates (s : Session) (k : ℕ) : Type 0 where
+  pub number : ℕ
+  pub least : 1 ≤ number
+  pub most : number ≤ 13
+  pub is-enabled : has (s .enabled) (number - 1) ≡ true
+  pub is-listed : has (s .listed) (number - 1) ≡ true
+  pub maps : has (opens (s .protects) number) k ≡ true
+
+pub record Permitted (s : Session) (k : ℕ) : Type 0 where
+  pub is-open : isOpen s ≡ true
+  pub kind : k ≤ 9
+  pub not-disabled : Some controlled 4 (s .disabled) k → ⊥
+  pub negotiates : inForce s ≡ true → Negotiates s k
 
 -- ---- the sessions that events make of it
 -- out of Open, in a state: "clears the peer's list, the disabled kinds, the force and the peer's dynamic flag"; also other flags where named

@@ -7,7 +7,7 @@ impl Session {
     const ALL_KINDS: u16 = 1023;
 
     // The permitted kinds of a session, sound or not.
-    pub fn permitted(self) -> u16
+    pub(crate) fn permitted(self) -> u16
         ensures { λ r. ⌜ r ≡ permitted self ⌝ }
     {
         if self.is_open() {

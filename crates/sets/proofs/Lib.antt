@@ -2,4 +2,5 @@ pub mod Members
 pub mod Bounds
 pub mod Subsets
 pub mod Switches
+pub mod Flags
 pub mod Determined

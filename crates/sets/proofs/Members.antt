@@ -138,3 +138,20 @@ module _ (s k : ℕ) where
 pub union-none : (a : ℕ) → union a 0 ≡ a
 unfolding union
 union-none a = or-zero-r a
+
+-- ---- the set of all below the width
+odd-of : (x : ℕ) → 0 < x → (x * 2 - 1) % 2 ≡ 1
+odd-of x h = omega arith
+
+half-of : (x : ℕ) → 0 < x → (x * 2 - 1) / 2 ≡ x - 1
+half-of x h = omega arith
+
+pub has-all : (w k : ℕ) → k < w → has (2 ^ w - 1) k ≡ true
+has-all zero k h = absurd (not-suc-le-zero h)
+has-all (suc w) zero h =
+    has-zeroth (2 ^ suc w - 1) ∙ ap (λ (n : ℕ). eqb ((n - 1) % 2) 1) (pow-suc 2 w) ∙ ap (λ (n : ℕ). eqb n 1) (odd-of (2 ^ w) (pow-pos w))
+has-all (suc w) (suc k) h =
+    sym (has-half (2 ^ suc w - 1) k)
+    ∙ ap (λ (n : ℕ). has ((n - 1) / 2) k) (pow-suc 2 w)
+    ∙ ap (λ (n : ℕ). has n k) (half-of (2 ^ w) (pow-pos w))
+    ∙ has-all w k (le-of-suc-le-suc h)

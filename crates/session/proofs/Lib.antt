@@ -1,0 +1,4 @@
+pub mod SoundMeans
+pub mod StaysSound
+pub mod PermittedMeans
+pub mod Determined

@@ -1,0 +1,73 @@
+-- The test `sound` holds exactly where every rule of "Sound means" does: the chain of tests taken apart and put together again. Assumes nothing.
+use mathlib.Core.Path.{_≡_, refl, sym, ap, _∙_}
+use mathlib.Core.Bool.{Bool, true, false, not, _&&_, _||_, true≢false, false≢true}
+use Prim.Native.Nat.{ℕ, _^_}
+use lib.Dec.{eqb, leb}
+use borrow.Author.Tests.{leb-true, le-leb, eqb-true, eq-eqb}
+use Rattle.choice.specs.Pick.{only}
+use Rattle.choice.proofs.Tests.{and-first, and-second, and-both, not-false, only-gives, only-holds}
+use Rattle.sets.specs.Set.{has, common, empty, below}
+use Rattle.sets.proofs.Bounds.{below-lt, lt-below}
+use Rattle.sets.proofs.Subsets.{empty-is}
+use Rattle.session.specs.declared.Session.{Session}
+use Rattle.session.specs.Session.{isOpen, isHeld, isGone, active, usesTac, inForce, dynamic, recorded, negotiated, leavesGone, spareZero, forceSound, listedSound, openSound, helloSound, heldSound, goneSound, sound, Sound}
+
+-- `not`, both ways
+not-true : {x : Bool} → x ≡ false → not x ≡ true
+not-true e = ap not e
+
+-- a set that is 0 is empty
+is-empty : {n : ℕ} → n ≡ 0 → empty n ≡ true
+unfolding empty
+is-empty e = eq-eqb _ 0 e
+
+module _ (s : Session) where
+  pub sound-means : sound s ≡ true → Sound s
+  unfolding sound spareZero forceSound listedSound openSound helloSound heldSound goneSound
+  sound-means h =
+      let t1 = and-second (spareZero s) _ h in
+      let t2 = and-second (forceSound s) _ t1 in
+      let t3 = and-second (listedSound s) _ t2 in
+      let t4 = and-second (openSound s) _ t3 in
+      let t5 = and-second (helloSound s) _ t4 in
+      let spare = and-first (spareZero s) _ h in
+      let s1 = and-second (leb (s .state) 3) _ spare in
+      let s2 = and-second (below 7 (s .flags)) _ s1 in
+      let s3 = and-second (below 13 (s .enabled)) _ s2 in
+      let s4 = and-second (below 13 (s .listed)) _ s3 in
+      let force : inForce s ≡ true → (isOpen s && (usesTac s && not (empty (negotiated s)))) ≡ true = λ e. only-gives (inForce s) _ (and-first (forceSound s) _ t1) e in
+      let shut : isOpen s ≡ false → (empty (s .disabled) && not (dynamic s)) ≡ true = λ e. only-gives (not (isOpen s)) _ (and-first (openSound s) _ t3) (not-true e) in
+      let held : isHeld s ≡ true → (active s && not (leavesGone s)) ≡ true = λ e. only-gives (isHeld s) _ (and-first (heldSound s) _ t5) e in
+      let gone : isGone s ≡ true → (active s && (leavesGone s && not (recorded s))) ≡ true = λ e. only-gives (isGone s) _ (and-second (heldSound s) _ t5) e in
+      record {
+        state = leb-true (s .state) 3 (and-first (leb (s .state) 3) _ spare);
+        flags = below-lt 7 (s .flags) (and-first (below 7 (s .flags)) _ s1);
+        enabled = below-lt 13 (s .enabled) (and-first (below 13 (s .enabled)) _ s2);
+        listed = below-lt 13 (s .listed) (and-first (below 13 (s .listed)) _ s3);
+        protects = below-lt 10 (s .protects) (and-first (below 10 (s .protects)) _ s4);
+        disabled = below-lt 4 (s .disabled) (and-second (below 10 (s .protects)) _ s4);
+        force-open = λ e. and-first (isOpen s) _ (force e);
+        force-uses = λ e. and-first (usesTac s) _ (and-second (isOpen s) _ (force e));
+        force-common = λ e. not-false _ (and-second (usesTac s) _ (and-second (isOpen s) _ (force e)));
+        unforced-listed = λ e. empty-is (s .listed) (only-gives (not (inForce s)) (empty (s .listed)) (and-first (listedSound s) _ t2) (not-true e));
+        shut-disabled = λ e. empty-is (s .disabled) (and-first (empty (s .disabled)) _ (shut e));
+        shut-dynamic = λ e. not-false _ (and-second (empty (s .disabled)) _ (shut e));
+        unrecorded-hello = λ e. eqb-true (s .hello) 0 (only-gives (not (recorded s)) (eqb (s .hello) 0) (and-first (helloSound s) _ t4) (not-true e));
+        held-active = λ e. and-first (active s) _ (held e);
+        held-stays = λ e. not-false _ (and-second (active s) _ (held e));
+        gone-active = λ e. and-first (active s) _ (gone e);
+        gone-leaves = λ e. and-first (leavesGone s) _ (and-second (active s) _ (gone e));
+        gone-unrecorded = λ e. not-false _ (and-second (leavesGone s) _ (and-second (active s) _ (gone e)));
+      }
+
+  pub means-sound : Sound s → sound s ≡ true
+  unfolding sound spareZero forceSound listedSound openSound helloSound heldSound goneSound
+  means-sound r =
+      and-both _ _ (and-both _ _ (le-leb _ _ (r .state)) (and-both _ _ (lt-below 7 _ (r .flags)) (and-both _ _ (lt-below 13 _ (r .enabled))
+      (and-both _ _ (lt-below 13 _ (r .listed)) (and-both _ _ (lt-below 10 _ (r .protects)) (lt-below 4 _ (r .disabled)))))))
+      (and-both _ _ (only-holds (inForce s) _ (λ e. and-both _ _ (r .force-open e) (and-both _ _ (r .force-uses e) (not-true (r .force-common e)))))
+      (and-both _ _ (only-holds (not (inForce s)) _ (λ e. is-empty (r .unforced-listed (not-false _ e))))
+      (and-both _ _ (only-holds (not (isOpen s)) _ (λ e. and-both _ _ (is-empty (r .shut-disabled (not-false _ e))) (not-true (r .shut-dynamic (not-false _ e)))))
+      (and-both _ _ (only-holds (not (recorded s)) _ (λ e. eq-eqb _ 0 (r .unrecorded-hello (not-false _ e))))
+      (and-both _ _ (only-holds (isHeld s) _ (λ e. and-both _ _ (r .held-active e) (not-true (r .held-stays e))))
+      (only-holds (isGone s) _ (λ e. and-both _ _ (r .gone-active e) (and-both _ _ (r .gone-leaves e) (not-true (r .gone-unrecorded e))))))))))
