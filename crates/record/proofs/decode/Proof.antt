@@ -1,0 +1,44 @@
+-- `decode` meets its contract: each return by the tests that led there. Assumes nothing.
+use mathlib.Core.Path.{sym, _∙_}
+use borrow.Author.Tests.{eq-eqb, ne-eqb}
+use Rattle.choice.proofs.Branch.{pick-true, pick-false}
+use Rattle.record.specs.Record.{decoded}
+use borrow.Author.Needs.{needs}
+use Rattle.record.proofs.decode.Statement.{statement}
+use Rattle.record.proofs.decode.Tie as tie
+
+headed-requires : tie.Need-headed-requires
+headed-requires c κs = search needs
+
+fields-requires : tie.Need-fields-requires
+fields-requires c κs = search needs
+
+returns : tie.Need-returns
+unfolding decoded
+returns c = simp (eq-eqb _ _ (c .before .before .before .if1 .taken), sym (c .before .before .headed .ensures) ∙ c .before .if2 .taken, c .fields .ensures, pick-true)
+
+no-session-requires : tie.Need-no-session-requires
+no-session-requires c κs = search needs
+
+returns-2 : tie.Need-returns-2
+unfolding decoded
+returns-2 c = simp (eq-eqb _ _ (c .before .before .before .if1 .taken), sym (c .before .before .headed .ensures) ∙ c .before .if2 .left, c .no-session .ensures, pick-true, pick-false)
+
+no-session-requires-2 : tie.Need-no-session-requires-2
+no-session-requires-2 c κs = search needs
+
+returns-3 : tie.Need-returns-3
+unfolding decoded
+returns-3 c = simp (ne-eqb _ _ (c .before .if1 .left), c .no-session2 .ensures, pick-false)
+
+pub decode-spec : {M : Type 1} → statement M
+decode-spec =
+    tie.close
+    (tie.spec
+    headed-requires
+    fields-requires
+    returns
+    no-session-requires
+    returns-2
+    no-session-requires-2
+    returns-3)
