@@ -68,3 +68,16 @@ type-bare a head at len r h w =
 
 pub bare : (a : List ℕ) → Bare (readArea a)
 bare = whole (λ a r. Bare r) (λ a n h. refl) type-bare
+
+-- a part of an area that is read lies within its 4,096 octets
+pub record Small (r : Reading) : Type 0 where
+  pub tac : r .tac .start + r .tac .len ≤ 4096
+  pub sac : r .sac .start + r .sac .len ≤ 4096
+
+pub small : (a : List ℕ) → Small (readArea a)
+unfolding readArea
+small a =
+    by-test Small (λ _. record { tac = omega arith; sac = omega arith })
+    (λ h. let l = ltb-false 4096 (length a) h in
+    let i = from Inside none-inside type-inside (length a) a 0 nothing (none-inside a 0) in
+    record { tac = omega (arith, i .tac); sac = omega (arith, i .sac) })

@@ -3,7 +3,6 @@ ghost use mathlib.Core.Path.{_≡_};
 ghost use Prim.Native.Nat.{_<_};
 ghost use lib.ListN.{length};
 ghost use Rattle.record.specs.Record.{encoded, stored, headed, fields, noSession, decoded};
-
 use session::Session;
 
 // How many octets a record has.

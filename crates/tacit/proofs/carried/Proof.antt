@@ -1,0 +1,25 @@
+-- `tacit::carried` meets its contract: a refusal stores nothing. Assumes nothing.
+use mathlib.Core.Path.{refl, sym, _∙_}
+use borrow.Author.Tests.{eq-eqb, ne-eqb}
+use Rattle.choice.proofs.Branch.{taken, left}
+use Rattle.tacit.specs.Boundary.{recordAfter}
+use borrow.Author.Needs.{needs}
+use Rattle.tacit.proofs.carried.Statement.{statement}
+use Rattle.tacit.proofs.carried.Tie as tie
+
+encode-requires : tie.Need-encode-requires
+encode-requires c κs = search needs
+
+same-length : tie.Need-same-length
+same-length c = search needs
+
+returns : tie.Need-returns
+unfolding recordAfter
+returns c = record { answer = refl; octets = c .before .before .encode .ensures ∙ sym (taken _ _ (eq-eqb _ _ (c .before .before .before .before .if1 .taken))) }
+
+returns-2 : tie.Need-returns-2
+unfolding recordAfter
+returns-2 c = record { answer = refl; octets = sym (left _ _ (ne-eqb _ _ (c .if1 .left))) }
+
+pub carried-spec : {M : Type 1} → statement M
+carried-spec = tie.close (tie.spec encode-requires same-length returns returns-2)

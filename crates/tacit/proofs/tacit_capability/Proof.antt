@@ -1,0 +1,23 @@
+-- `tacit_capability` meets its contract: the session's event, carried to the record. Assumes nothing.
+use borrow.Author.Needs.{needs}
+use Rattle.tacit.proofs.tacit_capability.Statement.{statement}
+use Rattle.tacit.proofs.tacit_capability.Tie as tie
+
+decode-requires : tie.Need-decode-requires
+decode-requires c κs = search needs
+
+capability-requires : tie.Need-capability-requires
+capability-requires c κs = search needs
+
+carried-requires : tie.Need-carried-requires
+carried-requires c κs = search needs
+
+same-length : tie.Need-same-length
+same-length c = search needs
+
+returns : tie.Need-returns
+returns c = simp (c .before .before .before .before .capability .ensures, c .before .before .before .before .before .decode .ensures) at (c .before .before .carried .ensures)
+
+pub tacit-capability-spec : {M : Type 1} → statement M
+tacit-capability-spec =
+    tie.close (tie.spec decode-requires capability-requires carried-requires same-length returns)

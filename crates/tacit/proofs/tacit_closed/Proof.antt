@@ -1,0 +1,23 @@
+-- `tacit_closed` meets its contract: the session's event, carried to the record. Assumes nothing.
+use borrow.Author.Needs.{needs}
+use Rattle.tacit.proofs.tacit_closed.Statement.{statement}
+use Rattle.tacit.proofs.tacit_closed.Tie as tie
+
+decode-requires : tie.Need-decode-requires
+decode-requires c κs = search needs
+
+closed-requires : tie.Need-closed-requires
+closed-requires c κs = search needs
+
+carried-requires : tie.Need-carried-requires
+carried-requires c κs = search needs
+
+same-length : tie.Need-same-length
+same-length c = search needs
+
+returns : tie.Need-returns
+returns c = simp (c .before .before .before .before .closed .ensures, c .before .before .before .before .before .decode .ensures) at (c .before .before .carried .ensures)
+
+pub tacit-closed-spec : {M : Type 1} → statement M
+tacit-closed-spec =
+    tie.close (tie.spec decode-requires closed-requires carried-requires same-length returns)

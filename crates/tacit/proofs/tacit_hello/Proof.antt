@@ -1,0 +1,23 @@
+-- `tacit_hello` meets its contract: the session's event, carried to the record. Assumes nothing.
+use borrow.Author.Needs.{needs}
+use Rattle.tacit.proofs.tacit_hello.Statement.{statement}
+use Rattle.tacit.proofs.tacit_hello.Tie as tie
+
+decode-requires : tie.Need-decode-requires
+decode-requires c κs = search needs
+
+hello-requires : tie.Need-hello-requires
+hello-requires c κs = search needs
+
+carried-requires : tie.Need-carried-requires
+carried-requires c κs = search needs
+
+same-length : tie.Need-same-length
+same-length c = search needs
+
+returns : tie.Need-returns
+returns c = simp (c .before .before .before .before .hello .ensures, c .before .before .before .before .before .decode .ensures) at (c .before .before .carried .ensures)
+
+pub tacit-hello-spec : {M : Type 1} → statement M
+tacit-hello-spec =
+    tie.close (tie.spec decode-requires hello-requires carried-requires same-length returns)

@@ -1,0 +1,24 @@
+-- `tacit_initialization` meets its contract: the session's event, carried to the record. Assumes nothing.
+use borrow.Author.Needs.{needs}
+use Rattle.tacit.proofs.tacit_initialization.Statement.{statement}
+use Rattle.tacit.proofs.tacit_initialization.Tie as tie
+
+decode-requires : tie.Need-decode-requires
+decode-requires c κs = search needs
+
+initialization-requires : tie.Need-initialization-requires
+initialization-requires c κs = search needs
+
+carried-requires : tie.Need-carried-requires
+carried-requires c κs = search needs
+
+same-length : tie.Need-same-length
+same-length c = search needs
+
+returns : tie.Need-returns
+returns c = simp (c .before .before .before .before .initialization .ensures, c .before .before .before .before .before .decode .ensures) at (c .before .before .carried .ensures)
+
+pub tacit-initialization-spec : {M : Type 1} → statement M
+tacit-initialization-spec =
+    tie.close
+    (tie.spec decode-requires initialization-requires carried-requires same-length returns)

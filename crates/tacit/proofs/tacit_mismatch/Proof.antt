@@ -1,0 +1,23 @@
+-- `tacit_mismatch` meets its contract: the session's event, carried to the record. Assumes nothing.
+use borrow.Author.Needs.{needs}
+use Rattle.tacit.proofs.tacit_mismatch.Statement.{statement}
+use Rattle.tacit.proofs.tacit_mismatch.Tie as tie
+
+decode-requires : tie.Need-decode-requires
+decode-requires c κs = search needs
+
+mismatch-requires : tie.Need-mismatch-requires
+mismatch-requires c κs = search needs
+
+carried-requires : tie.Need-carried-requires
+carried-requires c κs = search needs
+
+same-length : tie.Need-same-length
+same-length c = search needs
+
+returns : tie.Need-returns
+returns c = simp (c .before .before .before .before .mismatch .ensures, c .before .before .before .before .before .decode .ensures) at (c .before .before .carried .ensures)
+
+pub tacit-mismatch-spec : {M : Type 1} → statement M
+tacit-mismatch-spec =
+    tie.close (tie.spec decode-requires mismatch-requires carried-requires same-length returns)

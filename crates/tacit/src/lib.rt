@@ -1,0 +1,208 @@
+// What the label daemon calls. Each function decodes a record, lets the session answer, and stores the session after it; none asks anything of its
+// caller. include/tacit.h says the same to C.
+ghost use mathlib.Core.Path.{_≡_};
+ghost use Prim.Native.Nat.{_+_, _≤_};
+ghost use lib.ListN.{length};
+ghost use Rattle.choice.specs.Pick.{pick};
+ghost use Rattle.session.specs.Session.{sound};
+ghost use Rattle.session.specs.Creation.{roleFlags, created};
+ghost use Rattle.session.specs.Events.{initialization, capability, localChange, roomAfter, mismatch, hello, closed};
+ghost use Rattle.session.specs.Questions.{permittedKinds, permission, retryInterval};
+ghost use Rattle.record.specs.Record.{decoded};
+ghost use Rattle.tacit.specs.Boundary.{Carried, CreatedIn, recordAfter, createdIn, partOf, readingOf};
+use kinds::TaId;
+use session::After;
+use session::Answer;
+use session::Created;
+use session::Kinds;
+use session::Permission;
+use session::Retry;
+use session::Session;
+
+// A part of an area: where it starts, and how many octets it has.
+#[repr(C)]
+pub struct Part {
+    pub start: u16,
+    pub length: u16,
+}
+
+// What was found in an area.
+#[repr(C)]
+pub struct Reading {
+    pub refusal: u8,
+    pub dynamic: u8,
+    pub tac: Part,
+    pub sac: Part,
+}
+
+// Stores the session after an event, unless it was refused, and answers.
+fn carried(kept: &mut [u8], after: After) -> Answer
+    ensures { λ r. ⌜ Carried after (now (kept .entry)) r (now (kept .exit)) ⌝ }
+{
+    let answer = after.answer;
+    let session = after.session;
+    if answer.refusal == 0 {
+        record::encode(session, kept);
+        return answer;
+    }
+    answer
+}
+
+#[no_mangle]
+pub extern "C" fn tacit_initialization(kept: &mut [u8], area: &[u8]) -> Answer
+    ensures { λ r. ⌜ Carried (initialization (decoded (now (kept .entry))) (now (area .entry))) (now (kept .entry)) r (now (kept .exit)) ⌝ }
+{
+    let after = record::decode(kept).initialization(area);
+    carried(kept, after)
+}
+
+#[no_mangle]
+pub extern "C" fn tacit_capability(kept: &mut [u8], area: &[u8]) -> Answer
+    ensures { λ r. ⌜ Carried (capability (decoded (now (kept .entry))) (now (area .entry))) (now (kept .entry)) r (now (kept .exit)) ⌝ }
+{
+    let after = record::decode(kept).capability(area);
+    carried(kept, after)
+}
+
+#[no_mangle]
+pub extern "C" fn tacit_local_change(
+    kept: &mut [u8],
+    ta_id: u32,
+    on: bool,
+    room: &mut [u8],
+) -> Answer
+    ensures { λ r. ⌜ Carried (localChange (decoded (now (kept .entry))) «ta_id» on (length (now (room .entry)))) (now (kept .entry)) r (now (kept .exit)) ⌝ }
+    ensures { λ _. ⌜ now (room .exit) ≡ roomAfter (decoded (now (kept .entry))) «ta_id» on (now (room .entry)) ⌝ }
+{
+    let after = record::decode(kept).local_change(TaId(ta_id), on, room);
+    carried(kept, after)
+}
+
+#[no_mangle]
+pub extern "C" fn tacit_mismatch(kept: &mut [u8]) -> Answer
+    ensures { λ r. ⌜ Carried (mismatch (decoded (now (kept .entry)))) (now (kept .entry)) r (now (kept .exit)) ⌝ }
+{
+    let after = record::decode(kept).mismatch();
+    carried(kept, after)
+}
+
+#[no_mangle]
+pub extern "C" fn tacit_hello(kept: &mut [u8], number: u32) -> Answer
+    ensures { λ r. ⌜ Carried (hello (decoded (now (kept .entry))) number) (now (kept .entry)) r (now (kept .exit)) ⌝ }
+{
+    let after = record::decode(kept).hello(number);
+    carried(kept, after)
+}
+
+#[no_mangle]
+pub extern "C" fn tacit_closed(kept: &mut [u8]) -> Answer
+    ensures { λ r. ⌜ Carried (closed (decoded (now (kept .entry)))) (now (kept .entry)) r (now (kept .exit)) ⌝ }
+{
+    let after = record::decode(kept).closed();
+    carried(kept, after)
+}
+
+// Stores a fresh session in a room of 22 octets, or answers why not.
+fn created_in(kept: &mut [u8], made: Created) -> u8
+    ensures { λ r. ⌜ CreatedIn made (now (kept .entry)) r (now (kept .exit)) ⌝ }
+{
+    match made {
+        Created::Fresh(session) => {
+            if kept.len() == record::LENGTH {
+                record::encode(session, kept);
+                return 0;
+            }
+            10
+        }
+        Created::Refused(n) => {
+            if kept.len() == record::LENGTH {
+                return n;
+            }
+            10
+        }
+    }
+}
+
+#[no_mangle]
+pub extern "C" fn tacit_create(
+    kept: &mut [u8],
+    initiating: bool,
+    active: bool,
+    uses_tac: bool,
+    drops: bool,
+    protected_kinds: u32,
+    enabled: u32,
+    first_number: u32,
+) -> u8
+    ensures { λ r. ⌜ CreatedIn (created (roleFlags initiating active «uses_tac» drops) «protected_kinds» enabled «first_number») (now (kept .entry)) r (now (kept .exit)) ⌝ }
+{
+    let made = Session::new(
+        initiating,
+        active,
+        uses_tac,
+        drops,
+        protected_kinds,
+        enabled,
+        first_number,
+    );
+    created_in(kept, made)
+}
+
+fn narrowed(s: area::Span) -> Part
+    requires { ⌜ s .start + s .len ≤ 4096 ⌝ }
+    ensures { λ r. ⌜ r ≡ partOf s ⌝ }
+{
+    Part {
+        start: s.start as u16,
+        length: s.len as u16,
+    }
+}
+
+fn number_of(holds: bool) -> u8
+    ensures { λ r. ⌜ r ≡ pick holds 1 0 ⌝ }
+{
+    if holds { 1 } else { 0 }
+}
+
+#[no_mangle]
+pub extern "C" fn tacit_read(area: &[u8]) -> Reading
+    ensures { λ r. ⌜ r ≡ readingOf (now (area .entry)) ⌝ }
+{
+    let found = area::read_area(area);
+    let tac = found.tac;
+    let sac = found.sac;
+    Reading {
+        refusal: found.refusal,
+        dynamic: number_of(found.dynamic),
+        tac: narrowed(tac),
+        sac: narrowed(sac),
+    }
+}
+
+#[no_mangle]
+pub extern "C" fn tacit_permitted(kept: &[u8], kind: u32) -> Permission
+    ensures { λ r. ⌜ r ≡ permission (decoded (now (kept .entry))) kind ⌝ }
+{
+    record::decode(kept).permission(kind)
+}
+
+#[no_mangle]
+pub extern "C" fn tacit_permitted_kinds(kept: &[u8]) -> Kinds
+    ensures { λ r. ⌜ r ≡ permittedKinds (decoded (now (kept .entry))) ⌝ }
+{
+    record::decode(kept).permitted_kinds()
+}
+
+#[no_mangle]
+pub extern "C" fn tacit_retry_interval(kept: &[u8]) -> Retry
+    ensures { λ r. ⌜ r ≡ retryInterval (decoded (now (kept .entry))) ⌝ }
+{
+    record::decode(kept).retry_interval()
+}
+
+#[no_mangle]
+pub extern "C" fn tacit_sound(kept: &[u8]) -> bool
+    ensures { λ r. ⌜ r ≡ sound (decoded (now (kept .entry))) ⌝ }
+{
+    record::decode(kept).sound()
+}
