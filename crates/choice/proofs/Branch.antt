@@ -29,4 +29,11 @@ unfolding pick
 by-test P {t = true} f g = f refl
 by-test P {t = false} f g = g refl
 
+-- the same of two answers picked by one test
+pub pick-both : {A B : Type 0} (R : A → B → Type 0) (t : Bool) {a b : A} {a′ b′ : B} → (t ≡ true → R a a′) → (t ≡ false → R b b′)
+    → R (pick t a b) (pick t a′ b′)
+unfolding pick
+pick-both R true f g = f refl
+pick-both R false f g = g refl
+
 pub ruleset branch = (needs, lt-ltb, le-ltb, le-leb, lt-leb, eq-eqb, ne-eqb, pick-true, pick-false)

@@ -18,7 +18,7 @@ use Rattle.session.specs.declared.Session.{Session}
 use Rattle.session.specs.Session.{isOpen, inForce, negotiated, Sound, permitted, Negotiates, Permitted}
 
 -- no kind over 9 in a set of kinds 0 to 9
-kind-of : (a k : ℕ) → a < 2 ^ 10 → has a k ≡ true → k ≤ 9
+pub kind-of : (a k : ℕ) → a < 2 ^ 10 → has a k ≡ true → k ≤ 9
 kind-of a k h e = go (decLt k 10)
   where
     go : Dec (k < 10) → k ≤ 9

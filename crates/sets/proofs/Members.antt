@@ -9,7 +9,7 @@ use native.Mathlib.Omega.{arith}
 use native.Mathlib.Decide.{decLt, ℕ-discrete}
 use lib.Dec.{eqb, lit<}
 use lib.Pow.{shl-exact, shr-shr, shr-lt, pow-pos, pow-lt, pow-mono}
-use lib.Bits.{bitAnd, bitOr, bitXor, and-shr, or-shr, xor-shr, and-mod, or-mod, xor-mod, or-zero-r}
+use lib.Bits.{bitAnd, bitOr, bitXor, and-shr, or-shr, xor-shr, and-mod, or-mod, xor-mod, or-zero-r, or-lt}
 use Rattle.sets.specs.Set.{has, one, common, union, minus, with, without}
 
 -- `1 << k` loses nothing below the width
@@ -155,3 +155,12 @@ has-all (suc w) (suc k) h =
     ∙ ap (λ (n : ℕ). has ((n - 1) / 2) k) (pow-suc 2 w)
     ∙ ap (λ (n : ℕ). has n k) (half-of (2 ^ w) (pow-pos w))
     ∙ has-all w k (le-of-suc-le-suc h)
+
+-- a member more that is one already is nothing more
+pub with-has : (w s k : ℕ) → s < 2 ^ w → k < w → has s k ≡ true → with s k ≡ s
+unfolding with union
+with-has w s k small l h = ext w (with s k) s (or-lt w s (one k) small (pow-lt l)) small (λ j _. go j (ℕ-discrete k j))
+  where
+    go : (j : ℕ) → Dec (k ≡ j) → has (with s k) j ≡ has s j
+    go j (yes e) = rw (← e) (has-with-same s k ∙ sym h)
+    go j (no e) = has-with-other s k j e

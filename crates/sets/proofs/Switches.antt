@@ -1,14 +1,15 @@
 -- A number of 1 to w switched on or off in a set: it is then in the set or not, every other stays as it was, and no bits come beyond the
 -- width. From the laws of one member more or less. Assumes nothing.
-use mathlib.Core.Path.{_≡_, refl, ap, _∙_}
-use mathlib.Core.Bool.{Bool, true, false, _&&_, false≢true}
+use mathlib.Core.Path.{_≡_, refl, sym, ap, _∙_}
+use mathlib.Core.Bool.{Bool, true, false, _&&_, true≢false, false≢true}
 use Prim.Native.Nat.{ℕ, _+_, _-_, _^_, _<_, _≤_}
 use native.Mathlib.Omega.{arith}
+use native.Mathlib.Decide.{ℕ-discrete}
 use lib.Dec.{leb}
 use borrow.Author.Tests.{le-leb, leb-true}
 use Rattle.choice.specs.Pick.{pick}
-use Rattle.choice.proofs.Branch.{by-test, pick-true, pick-false}
-use Rattle.sets.specs.Set.{has, with, without, numbered, switched}
+use Rattle.choice.proofs.Branch.{by-test, pick-true, pick-false, left}
+use Rattle.sets.specs.Set.{has, with, without, numbered, switched, Within}
 use Rattle.sets.proofs.Members.{has-with-same, has-with-other, has-without-same, has-without-other}
 use Rattle.sets.proofs.Bounds.{with-lt, without-lt}
 
@@ -51,3 +52,43 @@ module _ (w s n : ℕ) (on : Bool) where
     where
       small : ℕ → Type 0
       small x = x < 2 ^ v
+
+-- ---- what it keeps of one set inside another
+module _ (w n : ℕ) (on : Bool) (s k : ℕ) where
+  switched-none : numbered w n ≡ false → has (switched w s n on) k ≡ has s k
+  unfolding switched
+  switched-none h = ap (λ (x : ℕ). has x k) (left _ _ h)
+
+  switched-here : numbered w n ≡ true → n ≡ k + 1 → has (switched w s n on) k ≡ on
+  switched-here h e =
+      let l = numbered-is w n h in
+      let place : n - 1 ≡ k = omega arith in
+      rw place at (switched-same w s n on (l .0) (l .1))
+
+module _ (w n a b : ℕ) (f : Within a b) where
+  -- switched alike in both
+  pub within-both : (on : Bool) → Within (switched w a n on) (switched w b n on)
+  within-both on k q = go (numbered w n) refl (ℕ-discrete n (k + 1))
+    where
+      go : (x : Bool) → numbered w n ≡ x → Dec (n ≡ k + 1) → has (switched w b n on) k ≡ true
+      go false h d = switched-none w n on b k h ∙ f k (sym (switched-none w n on a k h) ∙ q)
+      go true h (yes e) = switched-here w n on b k h e ∙ sym (switched-here w n on a k h e) ∙ q
+      go true h (no e) = switched-other w b n on k e ∙ f k (sym (switched-other w a n on k e) ∙ q)
+
+  -- on in the first, where the second has it
+  pub within-first : (numbered w n ≡ true → has b (n - 1) ≡ true) → Within (switched w a n true) b
+  within-first g k q = go (numbered w n) refl (ℕ-discrete n (k + 1))
+    where
+      go : (x : Bool) → numbered w n ≡ x → Dec (n ≡ k + 1) → has b k ≡ true
+      go false h d = f k (sym (switched-none w n true a k h) ∙ q)
+      go true h (yes e) = let place : n - 1 ≡ k = omega arith in rw place at (g h)
+      go true h (no e) = f k (sym (switched-other w a n true k e) ∙ q)
+
+  -- off in the second, where the first has it not
+  pub within-second : (numbered w n ≡ true → has a (n - 1) ≡ false) → Within a (switched w b n false)
+  within-second g k q = go (numbered w n) refl (ℕ-discrete n (k + 1))
+    where
+      go : (x : Bool) → numbered w n ≡ x → Dec (n ≡ k + 1) → has (switched w b n false) k ≡ true
+      go false h d = switched-none w n false b k h ∙ f k q
+      go true h (yes e) = let place : n - 1 ≡ k = omega arith in absurd (true≢false (sym q ∙ (rw place at (g h))))
+      go true h (no e) = switched-other w b n false k e ∙ f k q

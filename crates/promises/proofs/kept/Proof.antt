@@ -1,0 +1,26 @@
+-- `promises::kept` meets its contract: each promise by its theorem. Assumes nothing.
+use Rattle.record.proofs.RoundTrip.{read-back, stored-back}
+use Rattle.promises.proofs.Runs.{sound-over-runs, refused-is-nothing, room-stays, refused-can-go}
+use Rattle.promises.proofs.Condition3.{condition-3}
+use Rattle.promises.proofs.Written.{read-as-meant}
+use Rattle.promises.proofs.Examples.{examples, why-it-stops}
+use Rattle.promises.proofs.kept.Statement.{statement}
+use Rattle.promises.proofs.kept.Tie as tie
+
+returns : tie.Need-returns
+returns c =
+    record {
+      sound-over-runs = sound-over-runs;
+      refused-is-nothing = refused-is-nothing;
+      room-stays = room-stays;
+      refused-can-go = refused-can-go;
+      read-back = read-back;
+      stored-back = stored-back;
+      read-as-meant = read-as-meant;
+      condition-3 = condition-3;
+      examples = examples;
+      why-it-stops = why-it-stops;
+    }
+
+pub kept-spec : {M : Type 1} → statement M
+kept-spec = tie.close (tie.spec returns)

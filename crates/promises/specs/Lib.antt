@@ -1,0 +1,6 @@
+pub mod Run
+pub mod Words
+pub mod Condition3
+pub mod Written
+pub mod Examples
+pub mod Promises

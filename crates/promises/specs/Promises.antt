@@ -1,0 +1,18 @@
+-- All that is promised of sessions beyond what each function ensures. Assumes nothing.
+use Rattle.record.specs.Record.{ReadBack, StoredBack}
+use Rattle.promises.specs.Run.{SoundOverRuns, RefusedIsNothing, RoomStays, RefusedCanGo}
+use Rattle.promises.specs.Condition3.{Condition3}
+use Rattle.promises.specs.Written.{ReadAsMeant}
+use Rattle.promises.specs.Examples.{Examples, WhyItStops}
+
+pub record Promises : Type 0 where
+  pub sound-over-runs : SoundOverRuns
+  pub refused-is-nothing : RefusedIsNothing
+  pub room-stays : RoomStays
+  pub refused-can-go : RefusedCanGo
+  pub read-back : ReadBack
+  pub stored-back : StoredBack
+  pub read-as-meant : ReadAsMeant
+  pub condition-3 : Condition3
+  pub examples : Examples
+  pub why-it-stops : WhyItStops
