@@ -1,9 +1,7 @@
 -- Of document 01's examples those that reading decides, computed from the definitions: 9 and 10 whole, of the others the values that are handed
 -- back. Assumes nothing.
-use Prim.Native.Nat.{ℕ}
 use mathlib.Core.Path.{_≡_, refl}
-use mathlib.Core.List.{List, [], _∷_}
-use lib.ListN.{take, drop}
+use mathlib.Core.List.{[], _∷_}
 use Rattle.choice.specs.Pick.{pick}
 use Rattle.area.specs.Area.{refused, nothing, at16, fault, taken, takeTac, takeSac, takeDynamic, passOther, byType, tlvAt, readFrom, readArea, part, tacOf, sacOf}
 

@@ -2,12 +2,10 @@
 -- whole reading has, so each fact is shown of one TLV. Assumes nothing.
 use Prim.Native.Nat.{ℕ, zero, suc, _+_, _-_, _≤_, _<_}
 use native.Mathlib.Omega.{arith}
-use mathlib.Core.Path.{_≡_, refl, _∙_, sym}
+use mathlib.Core.Path.{_≡_, refl}
 use mathlib.Core.List.{List}
-use mathlib.Core.Bool.{true, false}
 use lib.ListN.{length}
-use lib.Dec.{eqb}
-use borrow.Author.Tests.{ltb-false, leb-false, eqb-false}
+use borrow.Author.Tests.{ltb-false, leb-false}
 use Rattle.choice.proofs.Branch.{by-test}
 use Rattle.area.specs.declared.Reading.{Reading}
 use Rattle.area.specs.Area.{refused, nothing, at16, taken, takeTac, takeSac, takeDynamic, passOther, byType, tlvAt, nextAt, readFrom, readArea}

@@ -1,6 +1,6 @@
 -- Two tests that hold together hold each, and the other way round. By cases on the first. Assumes nothing.
 use mathlib.Core.Path.{_≡_, refl}
-use mathlib.Core.Bool.{Bool, true, false, not, _&&_, _||_, false≢true}
+use mathlib.Core.Bool.{Bool, true, false, not, _&&_, false≢true}
 use Rattle.choice.specs.Pick.{only}
 
 pub and-first : (x y : Bool) → (x && y) ≡ true → x ≡ true

@@ -1,6 +1,6 @@
 -- The rule of a constant table of sets: place i holds the set of row i. One equation over the whole table, which is computed, and one law that
 -- reads it off at each place. Assumes nothing.
-use mathlib.Core.Path.{_≡_, refl, sym, ap, _∙_}
+use mathlib.Core.Path.{_≡_, refl, ap, _∙_}
 use mathlib.Core.List.{List, [], _∷_, map}
 use mathlib.Core.Bool.{Bool, true, false, _&&_}
 use Prim.Native.Nat.{ℕ, zero, suc, _-_, _^_, _<_}

@@ -18,7 +18,7 @@ const ROWS: [u16; 13] = [1, 2, 124, 1, 2, 128, 256, 0, 0, 512, 124, 1, 2];
 const CONTROLS: [u16; 4] = [1, 2, 128, 256];
 
 impl TaId {
-    pub const COUNT: u32 = 13;
+    const COUNT: u32 = 13;
 
     const SESSION_PROTECTION: u32 = 8;
 
@@ -63,7 +63,7 @@ impl TaId {
 }
 
 impl SacApp {
-    pub const COUNT: u32 = 4;
+    const COUNT: u32 = 4;
 
     // The set of Apps with this one switched on or off; an unknown one changes nothing.
     pub fn switched(self, apps: u8, on: bool) -> u8

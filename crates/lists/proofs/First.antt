@@ -1,7 +1,7 @@
 -- Of the elements of a TAC with equal identifiers the first decides, whatever its E; an application that no element names stays as it was; in an
 -- opening from the empty list exactly the known identifiers present are listed; and no bits come beyond the thirteen applications.
 -- By induction over the elements: only the first with an identifier can touch it. Assumes nothing.
-use Prim.Native.Nat.{ℕ, zero, suc, _+_, _-_, _^_, _<_, _≤_}
+use Prim.Native.Nat.{ℕ, zero, suc, _-_, _^_, _<_, _≤_}
 use native.Mathlib.Omega.{arith}
 use native.Mathlib.Decide.{ℕ-discrete, decLt}
 use mathlib.Core.Path.{_≡_, _∙_, sym, ap, refl}
@@ -9,7 +9,6 @@ use mathlib.Core.List.{List}
 use mathlib.Core.Bool.{Bool, true, false, _||_}
 use lib.Dec.{eqb}
 use borrow.Author.Tests.{eq-eqb, ne-eqb}
-use Rattle.choice.specs.Pick.{pick}
 use Rattle.choice.proofs.Branch.{by-test, taken, left}
 use Rattle.sets.specs.Set.{has, switched}
 use Rattle.sets.proofs.Members.{has-none}

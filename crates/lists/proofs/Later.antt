@@ -1,16 +1,15 @@
 -- Of the elements of a SAC that do anything to an App the later one holds; an App that no element does anything to stays as it was; and no bits
 -- come beyond the four Apps. By induction over the elements. Assumes nothing.
-use Prim.Native.Nat.{ℕ, zero, suc, _+_, _-_, _^_, _<_, _≤_}
+use Prim.Native.Nat.{ℕ, zero, suc, _-_, _^_, _<_, _≤_}
 use native.Mathlib.Omega.{arith}
-use native.Mathlib.Decide.{ℕ-discrete, decLt}
-use mathlib.Core.Path.{_≡_, _∙_, sym, ap, refl}
+use native.Mathlib.Decide.{decLt}
+use mathlib.Core.Path.{_≡_, _∙_, ap, refl}
 use mathlib.Core.List.{List}
-use mathlib.Core.Bool.{Bool, true, false, not, _&&_, true≢false}
+use mathlib.Core.Bool.{Bool, true, not, _&&_}
 use lib.ListN.{length}
 use lib.Dec.{eqb}
-use borrow.Author.Tests.{eqb-true, eq-eqb, ne-eqb}
-use Rattle.choice.specs.Pick.{pick}
-use Rattle.choice.proofs.Branch.{by-test, taken, left}
+use borrow.Author.Tests.{eqb-true, eq-eqb}
+use Rattle.choice.proofs.Branch.{by-test, left}
 use Rattle.choice.proofs.Tests.{and-first, and-second, not-false}
 use Rattle.sets.specs.Set.{has, switched}
 use Rattle.sets.proofs.Switches.{switched-same, switched-other, switched-lt}

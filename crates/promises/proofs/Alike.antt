@@ -1,7 +1,7 @@
 -- Two sessions alike but for the enabled applications, the first's within the second's, and the next message number: while an event leaves the first
 -- Open, the two are alike after it. The number is outside "alike", since a change may be written by one and be Unchanged in the other. A local change has
 -- eight cases, by what it asks and by which of the two has it so already; two of them cannot be. Assumes nothing.
-use Prim.Native.Nat.{ℕ, zero, suc, _+_, _-_, _≤_}
+use Prim.Native.Nat.{ℕ, _-_}
 use mathlib.Core.Path.{_≡_, refl, sym, ap, _∙_, subst}
 use mathlib.Core.Bool.{Bool, true, false, not, _&&_, _||_, true≢false, false≢true}
 use mathlib.Core.List.{List}
@@ -20,9 +20,9 @@ use Rattle.area.specs.Area.{readArea}
 use Rattle.session.specs.declared.Session.{Session}
 use Rattle.session.specs.declared.After.{After}
 use Rattle.session.specs.Session as S
-use Rattle.session.specs.Session.{isReady, isOpen, isGone, usesTac, inForce, dynamic, recorded, negotiated, sound, Sound, mismatched, apart, woken, besides, changed}
+use Rattle.session.specs.Session.{isReady, isOpen, isGone, usesTac, inForce, dynamic, recorded, negotiated, Sound, mismatched, apart, woken, besides, changed}
 use Rattle.session.specs.Events as E
-use Rattle.session.specs.Events.{refused, unchanged, answered, settled, opening, capable, already, same, sent, writing}
+use Rattle.session.specs.Events.{unchanged, answered, settled, opening, capable, same, sent, writing}
 use Rattle.session.proofs.SoundMeans.{means-sound}
 use Rattle.promises.specs.Run.{Event, Initialization, Capability, LocalChange, Mismatch, Hello, Closed, step}
 

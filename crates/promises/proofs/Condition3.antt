@@ -3,7 +3,6 @@
 use Prim.Native.Nat.{ℕ, _+_, _-_, _<_, _≤_, _^_}
 use mathlib.Core.Path.{_≡_, refl, sym, ap, _∙_, subst}
 use mathlib.Core.Bool.{Bool, true, false, true≢false}
-use mathlib.Core.Logic.{_↔_}
 use mathlib.Core.List.{List, [], _∷_}
 use native.Mathlib.Omega.{arith}
 use native.Mathlib.Decide.{decLt}
@@ -14,12 +13,12 @@ use Rattle.sets.proofs.Switches.{numbered-is, is-numbered}
 use Rattle.kinds.specs.Kinds.{knownApplication, isIn, opens}
 use Rattle.kinds.proofs.Table.{opens-lt}
 use Rattle.session.specs.declared.Session.{Session}
-use Rattle.session.specs.Session.{isOpen, inForce, sound, Sound, permitted, Negotiates, Permitted, besides}
+use Rattle.session.specs.Session.{isOpen, inForce, Sound, Negotiates, besides}
 use Rattle.session.proofs.SoundMeans.{sound-means}
 use Rattle.session.proofs.PermittedMeans.{kind-of, permitted-means, means-permitted}
 use Rattle.promises.specs.Run.{Event, Initialization, step, run, StaysOpen}
-use Rattle.promises.specs.Words.{Enables, Lists, Maps, Disables, Permits}
-use Rattle.promises.specs.Condition3.{ReadyPair, OnlySecond, Further, NeverLess, Condition3}
+use Rattle.promises.specs.Words.{Enables, Lists, Maps, Permits}
+use Rattle.promises.specs.Condition3.{Further, NeverLess, Condition3}
 use Rattle.promises.proofs.Runs.{step-sound}
 use Rattle.promises.proofs.Alike.{Alike, step-follows}
 

@@ -11,7 +11,7 @@ use Rattle.message.specs.Message.{eOctet}
 use Rattle.session.specs.Session.{spareZero, forceSound, listedSound, openSound, helloSound, heldSound, goneSound, sound, permitted, mismatched, apart, woken}
 use Rattle.session.specs.Creation.{raised}
 use Rattle.session.specs.Events.{answered, settled, opening, initialization, listAfter, flagsAfter, capable, capability, sent, writing, localChange, roomAfter, hello}
-use Rattle.promises.specs.Examples.{Examples, WhyItStops}
+use Rattle.promises.specs.Examples.{Examples, WhyItStops, WhyAtThatMoment}
 
 pub examples : Examples
 unfolding
@@ -50,3 +50,11 @@ unfolding
     forceSound listedSound openSound helloSound heldSound goneSound sound permitted mismatched apart woken raised answered settled opening
     initialization hello
 why-it-stops = record { first = refl; second = refl }
+
+pub why-at-that-moment : WhyAtThatMoment
+unfolding
+    pick has common union minus with without empty below numbered switched isIn setOf opens controlled gather opened disables over at16 fault taken
+    takeTac takeSac takeDynamic passOther byType tlvAt readFrom readArea part sBit idAt eAt stood after tacList sacElement sacAfter sacList eOctet
+    spareZero forceSound listedSound openSound helloSound heldSound goneSound sound permitted mismatched apart woken raised answered settled opening
+    initialization listAfter flagsAfter capable capability sent writing localChange roomAfter
+why-at-that-moment = record { first = refl; second = refl; in-force = refl; listed = refl }

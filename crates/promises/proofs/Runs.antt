@@ -1,15 +1,14 @@
 -- Over any run a sound session stays sound, and what is refused changes nothing. By the laws of one event, and induction over the events.
 -- Assumes nothing.
 use Prim.Native.Nat.{ℕ}
-use mathlib.Core.Path.{_≡_, refl, sym, ap, _∙_}
-use mathlib.Core.Bool.{Bool, true}
-use mathlib.Core.List.{List, [], _∷_, _++_}
+use mathlib.Core.Path.{_≡_, refl, ap}
+use mathlib.Core.List.{List, [], _∷_}
 use lib.ListN.{length}
 use lib.Dec.{ltb}
 use Rattle.choice.proofs.Branch.{by-test, left}
 use Rattle.session.specs.declared.Session.{Session}
 use Rattle.session.specs.declared.After.{After}
-use Rattle.session.specs.Session.{sound, Sound, mismatched}
+use Rattle.session.specs.Session.{Sound}
 use Rattle.session.specs.Events as E
 use Rattle.session.specs.Events.{refused, answered, settled, sent, writing, roomAfter}
 use Rattle.session.proofs.SoundMeans.{sound-means, means-sound}

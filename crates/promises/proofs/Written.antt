@@ -1,36 +1,35 @@
 -- What we write is read as we meant it. A message was written only for a known application and with room for it, so its last 9 octets are the TAC of one
 -- element; and reading that, the other end switches that application in its list and touches nothing else. Assumes nothing.
-use Prim.Native.Nat.{ℕ, _+_, _-_, _<_, _≤_}
-use mathlib.Core.Path.{_≡_, refl, sym, ap, ap₂, _∙_, subst}
+use Prim.Native.Nat.{ℕ, _-_, _<_, _≤_}
+use mathlib.Core.Path.{_≡_, refl, ap, ap₂, _∙_}
 use mathlib.Core.Bool.{Bool, true, false, _&&_}
-use mathlib.Core.List.{List, [], _∷_, _++_}
+use mathlib.Core.List.{List}
 use native.Mathlib.Omega.{arith}
-use lib.Dec.{leb, ltb, lit<}
+use lib.Dec.{ltb, lit<}
 use lib.ListN.{length, take, drop}
 use lib.Seq.{take-append-seam}
 use borrow.Author.Tests.{leb-true, le-leb}
-use Rattle.choice.specs.Pick.{pick}
 use Rattle.choice.proofs.Branch.{by-test, taken}
 use Rattle.choice.proofs.Tests.{and-both}
-use Rattle.sets.specs.Set.{has, union, with, switched}
+use Rattle.sets.specs.Set.{has, with, switched}
 use Rattle.sets.proofs.Members.{with-has}
 use Rattle.sets.proofs.Switches.{numbered-is, switched-same, switched-other}
 use Rattle.kinds.specs.Kinds.{knownApplication, isIn}
 use Rattle.octets.specs.Octets.{over}
 use Rattle.area.specs.declared.Reading.{Reading}
-use Rattle.area.specs.Area.{readArea, part}
-use Rattle.lists.specs.Tac.{sBit, tacList}
+use Rattle.area.specs.Area.{part}
+use Rattle.lists.specs.Tac.{tacList}
 use Rattle.lists.specs.Sac.{sacAfter, sacList}
 use Rattle.message.specs.Message.{tacOctets, messageOf}
-use Rattle.message.proofs.ReadBack.{oneTac, oneElement, last-nine, read-back, value-back, s-back, list-back}
+use Rattle.message.proofs.ReadBack.{oneTac, oneElement, last-nine, read-back, s-back, list-back}
 use Rattle.session.specs.declared.Session.{Session}
 use Rattle.session.specs.declared.After.{After}
-use Rattle.session.specs.Session.{isOpen, usesTac, inForce, sound, Sound, changed}
+use Rattle.session.specs.Session.{usesTac}
 use Rattle.session.specs.Events as E
 use Rattle.session.specs.Events.{answered, settled, takesTac, flagsAfter, listAfter, capable, sent, writing, roomAfter}
 use Rattle.session.proofs.SoundMeans.{sound-means}
-use Rattle.promises.specs.Run.{Event, Capability, LocalChange, step, run}
-use Rattle.promises.specs.Written.{told, OtherEnd, ExactlyThat, ReadAsMeant}
+use Rattle.promises.specs.Run.{Capability, step, run}
+use Rattle.promises.specs.Written.{told, OtherEnd, ReadAsMeant}
 
 -- ---- where 17 octets were written
 record Wrote (n room : ℕ) : Type 0 where

@@ -1,12 +1,12 @@
 -- Condition 3: "a carrier who adds an application must not lose a circuit". Assumes nothing.
 use Prim.Native.Nat.{ℕ}
 use mathlib.Core.Path.{_≡_}
-use mathlib.Core.Bool.{Bool, true}
+use mathlib.Core.Bool.{true}
 use mathlib.Core.Logic.{_↔_}
 use mathlib.Core.List.{List, _∷_}
 use Rattle.session.specs.declared.Session.{Session}
 use Rattle.session.specs.Session.{isReady, isOpen, inForce, sound, besides}
-use Rattle.promises.specs.Run.{Event, Initialization, step, run, StaysOpen}
+use Rattle.promises.specs.Run.{Event, Initialization, run, StaysOpen}
 use Rattle.promises.specs.Words.{Enables, Lists, Maps, Disables, Permits}
 
 -- "two sound Ready sessions alike in all but this: the second enables every application the first enables, perhaps more"

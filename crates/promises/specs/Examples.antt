@@ -4,10 +4,10 @@ use Prim.Native.Nat.{ℕ}
 use mathlib.Core.Path.{_≡_}
 use mathlib.Core.Bool.{true, false}
 use mathlib.Core.List.{List, [], _∷_, _++_}
-use lib.ListN.{length}
+use Rattle.kinds.specs.Kinds.{isIn}
 use Rattle.area.specs.Area.{readArea}
 use Rattle.session.specs.declared.Session.{Session}
-use Rattle.session.specs.Session.{isOpen, permitted}
+use Rattle.session.specs.Session.{isOpen, inForce, permitted}
 use Rattle.session.specs.Creation.{roleFlags, fresh}
 use Rattle.session.specs.Events.{roomAfter}
 use Rattle.promises.specs.Run.{Event, Initialization, Capability, LocalChange, step, run}
@@ -96,3 +96,17 @@ apart-ways =
 pub record WhyItStops : Type 0 where
   pub first : permitted (run (begins 0x08 1) apart-ways) ≡ 1
   pub second : permitted (run (begins 0x48 1) apart-ways) ≡ 256
+
+-- Why the enabled sets are those of that moment: 7 enabled against 4 and 7, both listed, and then 4 switched off in both. Of the sets at the start, 4 was
+-- enabled only in the second, is listed and maps to kind 0; and the second permits kind 8 alone
+abbrev pub switched-off : List Event
+switched-off =
+    Initialization (0x85 ∷ 0x06 ∷ 0 ∷ 1 ∷ 0x80 ∷ tac4and7)
+    ∷ LocalChange 4 false (room16 ++ (17 ∷ []))
+    ∷ []
+
+pub record WhyAtThatMoment : Type 0 where
+  pub first : permitted (run (begins 0x40 1) switched-off) ≡ 256
+  pub second : permitted (run (begins 0x48 1) switched-off) ≡ 256
+  pub in-force : inForce (run (begins 0x48 1) switched-off) ≡ true
+  pub listed : isIn (run (begins 0x48 1) switched-off .listed) 4 ≡ true

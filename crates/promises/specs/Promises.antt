@@ -3,7 +3,7 @@ use Rattle.record.specs.Record.{ReadBack, StoredBack}
 use Rattle.promises.specs.Run.{SoundOverRuns, RefusedIsNothing, RoomStays, RefusedCanGo}
 use Rattle.promises.specs.Condition3.{Condition3}
 use Rattle.promises.specs.Written.{ReadAsMeant}
-use Rattle.promises.specs.Examples.{Examples, WhyItStops}
+use Rattle.promises.specs.Examples.{Examples, WhyItStops, WhyAtThatMoment}
 
 pub record Promises : Type 0 where
   pub sound-over-runs : SoundOverRuns
@@ -16,3 +16,4 @@ pub record Promises : Type 0 where
   pub condition-3 : Condition3
   pub examples : Examples
   pub why-it-stops : WhyItStops
+  pub why-at-that-moment : WhyAtThatMoment

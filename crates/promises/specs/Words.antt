@@ -1,7 +1,7 @@
 -- Document 01's words about a session, an application n and a kind k. Assumes nothing.
 use Prim.Native.Nat.{ℕ}
 use mathlib.Core.Path.{_≡_}
-use mathlib.Core.Bool.{Bool, true}
+use mathlib.Core.Bool.{true}
 use Rattle.sets.specs.Set.{has}
 use Rattle.kinds.specs.Kinds.{isIn, opens, controlled, Some}
 use Rattle.session.specs.declared.Session.{Session}

@@ -1,9 +1,9 @@
 -- Condition 2: "our messages, read back, give what was written". Assumes nothing.
 use Prim.Native.Nat.{ℕ}
 use mathlib.Core.Path.{_≡_}
-use mathlib.Core.Bool.{Bool, true, false}
+use mathlib.Core.Bool.{Bool, true}
 use mathlib.Core.List.{List}
-use lib.ListN.{length, take, drop}
+use lib.ListN.{take, drop}
 use Rattle.sets.specs.Set.{switched}
 use Rattle.kinds.specs.Kinds.{isIn}
 use Rattle.session.specs.declared.Session.{Session}

@@ -1,12 +1,12 @@
 -- A sound session is read back as it was stored, and a sound record is stored as it was read. Field by field, by the laws of numbers in octets; the
 -- head of a record is its only one. Assumes nothing.
-use Prim.Native.Nat.{ℕ, zero, suc, _<_, _^_}
+use Prim.Native.Nat.{ℕ, zero, suc, _<_}
 use mathlib.Core.Path.{_≡_, refl, sym, ap, _∙_, subst}
-use mathlib.Core.Bool.{Bool, true, false, _&&_, false≢true}
+use mathlib.Core.Bool.{Bool, true, false, false≢true}
 use mathlib.Core.List.{List, [], _∷_}
 use native.Mathlib.Omega.{arith}
 use borrow.Author.Tests.{eqb-true}
-use lib.Dec.{eqb, leb}
+use lib.Dec.{eqb}
 use lib.ListN.{length, getD}
 use Rattle.choice.specs.Pick.{pick}
 use Rattle.choice.proofs.Branch.{taken, left}

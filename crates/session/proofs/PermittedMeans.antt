@@ -1,7 +1,7 @@
 -- A kind is permitted exactly when the session is Open, SAC has not disabled it and, where negotiation is in force, some application both enabled
 -- and listed maps to it. By the laws of the sets that `permitted` is made of. Assumes nothing.
 use mathlib.Core.Path.{_≡_, refl, sym, ap, _∙_}
-use mathlib.Core.Bool.{Bool, true, false, not, _&&_, true≢false, false≢true}
+use mathlib.Core.Bool.{Bool, true, false, not, _&&_, true≢false}
 use Prim.Native.Nat.{ℕ, _-_, _^_, _<_, _≤_}
 use native.Mathlib.Omega.{arith}
 use native.Mathlib.Decide.{decLt}
@@ -9,9 +9,9 @@ use lib.Dec.{lit<}
 use Rattle.choice.specs.Pick.{pick}
 use Rattle.choice.proofs.Branch.{taken, left}
 use Rattle.choice.proofs.Tests.{and-first, and-second, and-both, not-false}
-use Rattle.sets.specs.Set.{has, common, minus}
+use Rattle.sets.specs.Set.{has}
 use Rattle.sets.proofs.Members.{has-common, has-minus, has-none, has-above, has-all}
-use Rattle.kinds.specs.Kinds.{opens, controlled, opened, disables, Some}
+use Rattle.kinds.specs.Kinds.{opens, opened, disables, Some}
 use Rattle.kinds.proofs.Table.{opens-lt}
 use Rattle.kinds.proofs.Gathered.{gather-lt, opened-some, some-opened, disables-some, some-disables}
 use Rattle.session.specs.declared.Session.{Session}

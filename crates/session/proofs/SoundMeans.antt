@@ -1,12 +1,11 @@
 -- The test `sound` holds exactly where every rule of "Sound means" does: the chain of tests taken apart and put together again. Assumes nothing.
-use mathlib.Core.Path.{_≡_, refl, sym, ap, _∙_}
-use mathlib.Core.Bool.{Bool, true, false, not, _&&_, _||_, true≢false, false≢true}
-use Prim.Native.Nat.{ℕ, _^_}
+use mathlib.Core.Path.{_≡_, ap}
+use mathlib.Core.Bool.{Bool, true, false, not, _&&_}
+use Prim.Native.Nat.{ℕ}
 use lib.Dec.{eqb, leb}
 use borrow.Author.Tests.{leb-true, le-leb, eqb-true, eq-eqb}
-use Rattle.choice.specs.Pick.{only}
 use Rattle.choice.proofs.Tests.{and-first, and-second, and-both, not-false, only-gives, only-holds}
-use Rattle.sets.specs.Set.{has, common, empty, below}
+use Rattle.sets.specs.Set.{empty, below}
 use Rattle.sets.proofs.Bounds.{below-lt, lt-below}
 use Rattle.sets.proofs.Subsets.{empty-is}
 use Rattle.session.specs.declared.Session.{Session}

@@ -2,34 +2,31 @@
 -- an application changed, opened, told by a Capability message, or as it was. A mismatch asks less of the session that it is found in, `Basic`.
 -- Assumes nothing.
 use mathlib.Core.Path.{_≡_, refl, sym, ap, _∙_}
-use mathlib.Core.Bool.{Bool, true, false, not, _&&_, true≢false, false≢true}
+use mathlib.Core.Bool.{Bool, true, false, _&&_, true≢false, false≢true}
 use mathlib.Core.List.{List}
-use Prim.Native.Nat.{ℕ, zero, suc, _+_, _%_, _^_, _<_, _≤_}
+use Prim.Native.Nat.{ℕ, zero, suc, _^_, _<_, _≤_}
 use native.Mathlib.Omega.{arith}
-use lib.Dec.{eqb, leb, lit<, lit≤}
-use borrow.Author.Tests.{eqb-true}
+use lib.Dec.{eqb, lit<, lit≤}
 use Rattle.choice.specs.Pick.{pick}
 use Rattle.choice.proofs.Branch.{by-test, taken, left}
-use Rattle.choice.proofs.Tests.{and-first, and-second, and-both, not-false}
-use Rattle.sets.specs.Set.{has, union, common, minus, empty, switched}
+use Rattle.choice.proofs.Tests.{and-first, and-both}
+use Rattle.sets.specs.Set.{has, union, common, empty}
 use Rattle.sets.proofs.Bounds.{minus-lt, union-lt}
 use Rattle.sets.proofs.Flags as flag
 use Rattle.sets.proofs.Members.{has-none}
 use Rattle.sets.proofs.Switches.{switched-lt}
 use Rattle.area.specs.declared.Reading.{Reading}
 use Rattle.area.specs.Area.{readArea, part}
-use Rattle.lists.specs.Tac.{sBit, tacList}
-use Rattle.lists.specs.Sac.{sacList}
+use Rattle.lists.specs.Tac.{sBit}
 use Rattle.lists.proofs.First.{tac-list-lt}
 use Rattle.lists.proofs.Later.{sac-list-lt}
 use Rattle.session.specs.declared.Session.{Session}
 use Rattle.session.specs.declared.After.{After}
 use Rattle.session.specs.Session as S
-use Rattle.session.specs.Session.{isReady, isOpen, isHeld, isGone, active, usesTac, inForce, dynamic, recorded, negotiated, leavesGone, sound, Sound, backToReady, mismatched, apart, woken, greeted, besides, changed, numbered}
+use Rattle.session.specs.Session.{isReady, isOpen, isHeld, active, usesTac, inForce, dynamic, recorded, negotiated, leavesGone, Sound, backToReady, mismatched, apart, woken, greeted, changed, numbered}
 use Rattle.session.specs.Creation.{raised, roleFlags, fresh}
 use Rattle.session.specs.Events as E
 use Rattle.session.specs.Events.{takesTac, opening, capable, listAfter, flagsAfter, answered, settled, sent, writing}
-use Rattle.session.proofs.SoundMeans.{sound-means, means-sound}
 
 never : {A : Type 0} {x : Bool} → x ≡ true → x ≡ false → A
 never e f = absurd (true≢false (sym e ∙ f))

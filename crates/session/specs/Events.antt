@@ -15,7 +15,6 @@ use Rattle.lists.specs.Tac.{sBit, tacList}
 use Rattle.lists.specs.Sac.{sacList}
 use Rattle.message.specs.Message.{messageOf}
 use Rattle.session.specs.declared.Session.{Session}
-use Rattle.session.specs.declared.Answer.{Answer}
 use Rattle.session.specs.declared.After.{After}
 use Rattle.session.specs.Session.{isReady, isOpen, isGone, usesTac, inForce, dynamic, recorded, forceFlag, dynamicFlag, sound, permitted, backToReady, mismatched, apart, woken, greeted, changed, numbered}
 use Rattle.session.specs.Creation.{raised}

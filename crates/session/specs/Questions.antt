@@ -1,6 +1,5 @@
 -- The questions that change nothing: "creation and the question about a kind: 10, 6"; "retry interval: 10; refused, it is 0". Assumes nothing.
 use Prim.Native.Nat.{ℕ}
-use mathlib.Core.Bool.{Bool}
 use lib.Dec.{leb}
 use Rattle.choice.specs.Pick.{pick}
 use Rattle.sets.specs.Set.{has}

@@ -1,7 +1,6 @@
 // Capability message.
 ghost use mathlib.Core.Path.{_≡_};
-ghost use Rattle.choice.specs.Pick.{pick};
-ghost use Rattle.session.specs.Events.{listAfter, flagsAfter, takesTac, capable, capability};
+ghost use Rattle.session.specs.Events.{listAfter, flagsAfter, capable, capability};
 use crate::After;
 use crate::Session;
 use area::Reading;

@@ -75,13 +75,13 @@ pub struct Retry {
 }
 
 impl Session {
-    pub const READY: u8 = 0;
+    const READY: u8 = 0;
 
-    pub const OPEN: u8 = 1;
+    const OPEN: u8 = 1;
 
-    pub const HELD: u8 = 2;
+    const HELD: u8 = 2;
 
-    pub const GONE: u8 = 3;
+    const GONE: u8 = 3;
 
     // Sets of flags.
     const INITIATING: u16 = 1;

@@ -1,7 +1,7 @@
 -- What is in a set made by each operation, and that a set is told by its members: each law once, for every width. An operation on the binary
 -- digits goes member by member, so each law is the operation's table on two digits. Assumes nothing.
 use mathlib.Core.Path.{_≡_, refl, sym, ap, ap₂, _∙_}
-use mathlib.Core.Bool.{Bool, true, false, not, _&&_, _||_, true≢false, or-true, or-false, and-true, and-false}
+use mathlib.Core.Bool.{Bool, true, false, not, _&&_, _||_, or-true, or-false, and-true, and-false}
 use Prim.Native.Nat.{ℕ, zero, suc, _+_, _-_, _*_, _/_, _%_, _^_, _<_, _≤_, suc-le-suc, zero-le}
 use native.Mathlib.Nat.{mod-lt, zero-lt-suc, le-of-suc-le-suc, not-suc-le-zero, one-mul, pow-suc, div-add-mod', div-one, zero-div, div-eq-of-lt, div-self, lt-of-lt-of-le, mul-mod-left, mul-div-cancel}
 use native.Mathlib.Numerals.{one-add, add-one}

@@ -1,16 +1,15 @@
 -- A set inside another: what the operations keep, when a set is empty, and that the test `within` says it of the members. Each law goes by
 -- members. Assumes nothing.
 use mathlib.Core.Path.{_≡_, refl, sym, ap, _∙_}
-use mathlib.Core.Bool.{Bool, true, false, not, _&&_, _||_, true≢false, and-false}
+use mathlib.Core.Bool.{Bool, true, false, not, _&&_, _||_, true≢false}
 use Prim.Native.Nat.{ℕ, zero, suc, _^_, _<_}
 use native.Mathlib.Nat.{pow-suc}
 use native.Mathlib.Omega.{arith}
-use native.Mathlib.Decide.{ℕ-discrete}
 use lib.Dec.{lit<}
 use lib.Pow.{pow-pos}
 use borrow.Author.Tests.{eqb-true, eq-eqb}
-use Rattle.sets.specs.Set.{has, common, union, minus, with, without, empty, within, Within}
-use Rattle.sets.proofs.Members.{has-common, has-union, has-minus, has-none, ext, has-with-same, has-with-other, has-without-same, has-without-other}
+use Rattle.sets.specs.Set.{has, common, union, minus, empty, within, Within}
+use Rattle.sets.proofs.Members.{has-common, has-union, has-minus, has-none, ext}
 
 pub within-self : (a : ℕ) → Within a a
 within-self a k h = h

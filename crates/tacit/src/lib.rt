@@ -9,7 +9,7 @@ ghost use Rattle.session.specs.Creation.{roleFlags, created};
 ghost use Rattle.session.specs.Events.{initialization, capability, localChange, roomAfter, mismatch, hello, closed};
 ghost use Rattle.session.specs.Questions.{permittedKinds, permission, retryInterval};
 ghost use Rattle.record.specs.Record.{decoded};
-ghost use Rattle.tacit.specs.Boundary.{Carried, CreatedIn, recordAfter, createdIn, partOf, readingOf};
+ghost use Rattle.tacit.specs.Boundary.{Carried, CreatedIn, partOf, readingOf};
 use kinds::TaId;
 use session::After;
 use session::Answer;

@@ -2,7 +2,7 @@
 use Rattle.area.specs.Area.{part}
 use mathlib.Core.Path.{_∙_, sym, ap}
 use mathlib.Core.List.{List}
-use Prim.Native.Nat.{ℕ, _-_, _≤_, _+_}
+use Prim.Native.Nat.{ℕ, _-_, _≤_}
 use native.Mathlib.Nat.{add-sub-cancel-left}
 use native.Mathlib.Omega.{arith}
 use lib.ListN.{take, drop, length, length-drop, drop-of-length-le}

@@ -1,9 +1,7 @@
 -- `kinds::opened` meets its contract. The loop's invariant: the kinds are those of the applications 1 to i. Assumes nothing.
-use mathlib.Core.Path.{_≡_, refl, _∙_, sym, ap}
-use Prim.Native.Nat.{ℕ, _≤_, _-_, _+_}
+use mathlib.Core.Path.{_≡_, refl, _∙_, sym}
+use Prim.Native.Nat.{_≤_, _-_}
 use native.Mathlib.Omega.{arith}
-use Rattle.choice.specs.Pick.{pick}
-use Rattle.sets.specs.Set.{has, union}
 use Rattle.kinds.specs.Kinds.{gather, opens, opened}
 use Rattle.kinds.proofs.Gathered.{gather-more}
 use Rattle.kinds.proofs.opened.Statement.{statement}

@@ -1,5 +1,5 @@
 -- `lists::adds` meets its contract. Assumes nothing.
-use mathlib.Core.Path.{refl, sym, ap}
+use mathlib.Core.Path.{sym, ap}
 use Rattle.lists.specs.Tac.{eAt}
 use mathlib.Core.Bool.{Bool, _||_}
 use borrow.Author.Needs.{needs}

@@ -3,7 +3,7 @@ use Rattle.record.proofs.RoundTrip.{read-back, stored-back}
 use Rattle.promises.proofs.Runs.{sound-over-runs, refused-is-nothing, room-stays, refused-can-go}
 use Rattle.promises.proofs.Condition3.{condition-3}
 use Rattle.promises.proofs.Written.{read-as-meant}
-use Rattle.promises.proofs.Examples.{examples, why-it-stops}
+use Rattle.promises.proofs.Examples.{examples, why-it-stops, why-at-that-moment}
 use Rattle.promises.proofs.kept.Statement.{statement}
 use Rattle.promises.proofs.kept.Tie as tie
 
@@ -20,6 +20,7 @@ returns c =
       condition-3 = condition-3;
       examples = examples;
       why-it-stops = why-it-stops;
+      why-at-that-moment = why-at-that-moment;
     }
 
 pub kept-spec : {M : Type 1} → statement M

@@ -1,9 +1,9 @@
 -- `record::encode` meets its contract: 22 octets over 22 leave nothing of what was there. Assumes nothing.
 use Prim.Native.Nat.{ℕ}
 use mathlib.Core.Path.{sym, ap, _∙_}
-use mathlib.Core.List.{List, append-nil, _++_}
+use mathlib.Core.List.{List, _++_}
 use native.Mathlib.Omega.{arith}
-use lib.ListN.{length, drop, drop-of-length-le}
+use lib.ListN.{length, drop-of-length-le}
 use borrow.Author.Tests.{eq-eqb, ne-eqb, le-leb}
 use Rattle.choice.proofs.Branch.{taken, left}
 use Rattle.octets.specs.Octets.{over}

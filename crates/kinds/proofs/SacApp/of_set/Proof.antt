@@ -1,6 +1,5 @@
 -- `SacApp::of_set` meets its contract: the table holds the kind of each App. Assumes nothing.
 use mathlib.Core.Path.{_∙_, sym}
-use mathlib.Core.List.{_∷_, []}
 use Prim.Native.Nat.{_-_}
 use native.Mathlib.Omega.{arith}
 use Rattle.choice.proofs.Branch.{taken, left}

@@ -1,5 +1,4 @@
 -- `SacApp::switched` meets its contract: what it switches fits 8 bits again. Assumes nothing.
-use mathlib.Core.Path.{_∙_}
 use native.Mathlib.Omega.{arith}
 use Rattle.sets.proofs.Switches.{switched-lt}
 use borrow.Author.Needs.{needs}
