@@ -5,17 +5,19 @@ ghost use lib.ListN.{length};
 ghost use Rattle.area.specs.Area.{refused, at16, fault, taken, takeTac, takeSac, takeDynamic, passOther, byType, tlvAt, readArea, part};
 
 // A part of an area: where it starts, and how many octets it has.
+#[repr(C)]
 pub struct Span {
-    pub start: usize,
-    pub len: usize,
+    pub start: u16,
+    pub len: u16,
 }
 
 // What was found in an area. A TAC has one octet at the least and a SAC two, so a part without octets is an absent one.
+#[repr(C)]
 pub struct Reading {
     pub refusal: u8,
+    pub dynamic: bool,
     pub tac: Span,
     pub sac: Span,
-    pub dynamic: bool,
 }
 
 const MOST: usize = 4096;
@@ -32,9 +34,9 @@ fn refuse(n: u8) -> Reading
 {
     Reading {
         refusal: n,
+        dynamic: false,
         tac: Span { start: 0, len: 0 },
         sac: Span { start: 0, len: 0 },
-        dynamic: false,
     }
 }
 
@@ -72,27 +74,35 @@ fn taken(n: u8, found: Reading) -> Reading
 }
 
 fn take_tac(at: usize, len: usize, r: Reading) -> Reading
+    requires { ⌜ at + len ≤ 4096 ⌝ }
     ensures { λ s. ⌜ s ≡ takeTac at len r ⌝ }
 {
     let sac = r.sac;
     let found = Reading {
         refusal: 0,
-        tac: Span { start: at, len },
-        sac,
         dynamic: r.dynamic,
+        tac: Span {
+            start: at as u16,
+            len: len as u16,
+        },
+        sac,
     };
     taken(fault(0 < r.tac.len, len % 4 != 1), found)
 }
 
 fn take_sac(at: usize, len: usize, r: Reading) -> Reading
+    requires { ⌜ at + len ≤ 4096 ⌝ }
     ensures { λ s. ⌜ s ≡ takeSac at len r ⌝ }
 {
     let tac = r.tac;
     let found = Reading {
         refusal: 0,
-        tac,
-        sac: Span { start: at, len },
         dynamic: r.dynamic,
+        tac,
+        sac: Span {
+            start: at as u16,
+            len: len as u16,
+        },
     };
     taken(fault(0 < r.sac.len, len < 2), found)
 }
@@ -104,9 +114,9 @@ fn take_dynamic(len: usize, r: Reading) -> Reading
     let sac = r.sac;
     let found = Reading {
         refusal: 0,
+        dynamic: true,
         tac,
         sac,
-        dynamic: true,
     };
     taken(fault(r.dynamic, len != 1), found)
 }
@@ -130,6 +140,7 @@ fn pass_other(head: usize, r: Reading) -> Reading
 
 // A whole TLV, by its type.
 fn by_type(head: usize, at: usize, len: usize, r: Reading) -> Reading
+    requires { ⌜ at + len ≤ 4096 ⌝ }
     ensures { λ s. ⌜ s ≡ byType head at len r ⌝ }
 {
     let tlv_type = head % 0x4000;
@@ -147,7 +158,7 @@ fn by_type(head: usize, at: usize, len: usize, r: Reading) -> Reading
 
 // The TLV at a place, after r was found.
 fn tlv_at(a: &[u8], at: usize, r: Reading) -> Reading
-    requires { ⌜ at ≤ length (now a) ⌝ }
+    requires { ⌜ (at ≤ length (now a)) × (length (now a) ≤ 4096) ⌝ }
     ensures { λ s. ⌜ s ≡ tlvAt (now (a .entry)) at r ⌝ }
 {
     let left = a.len() - at;
@@ -185,8 +196,8 @@ pub fn read_area(area: &[u8]) -> Reading
 pub fn part_of(area: &[u8], s: Span) -> &[u8]
     ensures { λ r. ⌜ now r ≡ part (now (area .entry)) s ⌝ }
 {
-    let start = s.start;
-    let len = s.len;
+    let start = s.start as usize;
+    let len = s.len as usize;
     if area.len() < start {
         return &area[0..0];
     }

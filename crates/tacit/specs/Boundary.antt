@@ -6,16 +6,12 @@ use mathlib.Core.List.{List}
 use lib.ListN.{length}
 use lib.Dec.{eqb}
 use Rattle.choice.specs.Pick.{pick}
-use Rattle.area.specs.declared.Span.{Span}
-use Rattle.area.specs.Area.{readArea}
 use Rattle.session.specs.declared.Answer.{Answer}
 use Rattle.session.specs.declared.After.{After}
 use Rattle.session.specs.declared.Created.{Created}
 use Rattle.session.specs.declared.Created.the-variants.{Fresh, Refused}
 use Rattle.session.specs.Creation.{refusalOf}
 use Rattle.record.specs.Record.{stored}
-use Rattle.tacit.specs.declared.Part.{Part}
-use Rattle.tacit.specs.declared.Reading.{Reading}
 
 -- ---- an event, from record to record
 -- "A refusal ..; the session, its record and the room lent for writing stay exactly as found"; else the record holds the session after the event
@@ -39,16 +35,3 @@ createdIn (Refused n) l = l
 pub record CreatedIn (c : Created) (l : List ℕ) (r : ℕ) (l′ : List ℕ) : Type 0 where
   pub refusal : r ≡ creationRefusal c l
   pub octets : l′ ≡ createdIn c l
-
--- ---- a reading, in the numbers that C is handed
-abbrev pub partOf : Span → Part
-partOf s = record { start = s .start; length = s .len }
-
-unfoldable pub readingOf : List ℕ → Reading
-readingOf a =
-    record {
-      refusal = readArea a .refusal;
-      dynamic = pick (readArea a .dynamic) 1 0;
-      tac = partOf (readArea a .tac);
-      sac = partOf (readArea a .sac);
-    }

@@ -1,15 +1,15 @@
 // What the label daemon calls. Each function decodes a record, lets the session answer, and stores the session after it; none asks anything of its
 // caller. include/tacit.h says the same to C.
 ghost use mathlib.Core.Path.{_≡_};
-ghost use Prim.Native.Nat.{_+_, _≤_};
 ghost use lib.ListN.{length};
-ghost use Rattle.choice.specs.Pick.{pick};
+ghost use Rattle.area.specs.Area.{readArea};
 ghost use Rattle.session.specs.Session.{sound};
 ghost use Rattle.session.specs.Creation.{roleFlags, created};
 ghost use Rattle.session.specs.Events.{initialization, capability, localChange, roomAfter, mismatch, hello, closed};
 ghost use Rattle.session.specs.Questions.{permittedKinds, permission, retryInterval};
 ghost use Rattle.record.specs.Record.{decoded};
-ghost use Rattle.tacit.specs.Boundary.{Carried, CreatedIn, partOf, readingOf};
+ghost use Rattle.tacit.specs.Boundary.{Carried, CreatedIn};
+use area::Reading;
 use kinds::TaId;
 use session::After;
 use session::Answer;
@@ -18,22 +18,6 @@ use session::Kinds;
 use session::Permission;
 use session::Retry;
 use session::Session;
-
-// A part of an area: where it starts, and how many octets it has.
-#[repr(C)]
-pub struct Part {
-    pub start: u16,
-    pub length: u16,
-}
-
-// What was found in an area.
-#[repr(C)]
-pub struct Reading {
-    pub refusal: u8,
-    pub dynamic: u8,
-    pub tac: Part,
-    pub sac: Part,
-}
 
 // Stores the session after an event, unless it was refused, and answers.
 fn carried(kept: &mut [u8], after: After) -> Answer
@@ -148,35 +132,11 @@ pub extern "C" fn tacit_create(
     created_in(kept, made)
 }
 
-fn narrowed(s: area::Span) -> Part
-    requires { ⌜ s .start + s .len ≤ 4096 ⌝ }
-    ensures { λ r. ⌜ r ≡ partOf s ⌝ }
-{
-    Part {
-        start: s.start as u16,
-        length: s.len as u16,
-    }
-}
-
-fn number_of(holds: bool) -> u8
-    ensures { λ r. ⌜ r ≡ pick holds 1 0 ⌝ }
-{
-    if holds { 1 } else { 0 }
-}
-
 #[no_mangle]
 pub extern "C" fn tacit_read(area: &[u8]) -> Reading
-    ensures { λ r. ⌜ r ≡ readingOf (now (area .entry)) ⌝ }
+    ensures { λ r. ⌜ r ≡ readArea (now (area .entry)) ⌝ }
 {
-    let found = area::read_area(area);
-    let tac = found.tac;
-    let sac = found.sac;
-    Reading {
-        refusal: found.refusal,
-        dynamic: number_of(found.dynamic),
-        tac: narrowed(tac),
-        sac: narrowed(sac),
-    }
+    area::read_area(area)
 }
 
 #[no_mangle]

@@ -11,6 +11,12 @@ use borrow.Author.Needs.{needs}
 use Rattle.area.proofs.part_of.Statement.{statement}
 use Rattle.area.proofs.part_of.Tie as tie
 
+cast-start : tie.Need-cast-start
+cast-start c = search needs
+
+cast-len : tie.Need-cast-len
+cast-len c = search needs
+
 sub-result : tie.Need-sub-result
 sub-result c = search needs
 
@@ -23,8 +29,8 @@ part-result-end c = search needs
 returns : tie.Need-returns
 unfolding part
 returns c =
-    let s = c .before .before .args .s in
-    sym (ap (take (s .len)) (drop-of-length-le (c .before .before .args .area .now) {i = s .start} (omega arith)) ∙ take-nil (s .len))
+    let s = c .before .before .before .before .args .s in
+    sym (ap (take (s .len)) (drop-of-length-le (c .before .before .before .before .args .area .now) {i = s .start} (omega arith)) ∙ take-nil (s .len))
 
 sub-rest : tie.Need-sub-rest
 sub-rest c = search needs
@@ -41,10 +47,10 @@ part-result-end-2 c = search needs
 returns-2 : tie.Need-returns-2
 unfolding part
 returns-2 c =
-    let s = c .before .before .before .args .s in
-    let rest : List ℕ = drop (s .start) (c .before .before .before .args .area .now) in
-    let fits : length rest ≤ length (c .before .before .before .args .area .now) - s .start = omega (arith, length-drop (s .start) (c .before .before .before .args .area .now)) in
-    let less : length rest ≤ s .len = omega (arith, length-drop (s .start) (c .before .before .before .args .area .now)) in
+    let s = c .before .before .before .before .before .args .s in
+    let rest : List ℕ = drop (s .start) (c .before .before .before .before .before .args .area .now) in
+    let fits : length rest ≤ length (c .before .before .before .before .before .args .area .now) - s .start = omega (arith, length-drop (s .start) (c .before .before .before .before .before .args .area .now)) in
+    let less : length rest ≤ s .len = omega (arith, length-drop (s .start) (c .before .before .before .before .before .args .area .now)) in
     take-all _ rest fits ∙ sym (take-all _ rest less)
 
 add-end : tie.Need-add-end
@@ -67,6 +73,8 @@ pub part-of-spec : {M : Type 1} → statement M
 part-of-spec =
     tie.close
     (tie.spec
+    cast-start
+    cast-len
     sub-result
     part-result-start
     part-result-end

@@ -4,6 +4,12 @@ use borrow.Author.Needs.{needs}
 use Rattle.area.proofs.take_sac.Statement.{statement}
 use Rattle.area.proofs.take_sac.Tie as tie
 
+cast-t6 : tie.Need-cast-t6
+cast-t6 c = search needs
+
+cast-t7 : tie.Need-cast-t7
+cast-t7 c = search needs
+
 fault-requires : tie.Need-fault-requires
 fault-requires c κs = search needs
 
@@ -15,4 +21,4 @@ unfolding takeSac
 returns c = simp (c .taken .ensures, c .before .fault .ensures)
 
 pub take-sac-spec : {M : Type 1} → statement M
-take-sac-spec = tie.close (tie.spec fault-requires taken-requires returns)
+take-sac-spec = tie.close (tie.spec cast-t6 cast-t7 fault-requires taken-requires returns)

@@ -1,0 +1,91 @@
+# tacit: the C library and what checks it. `make help` lists the targets.
+
+PREFIX        ?= /usr/local
+DESTDIR       ?=
+VERSION       := 1.0.0
+CALLS         ?= 200000
+SEED          ?= 0x7AC17
+
+# Where libtacit.a is. Set it to check another build of the library.
+TACIT_LIB_DIR ?= build
+
+library := $(TACIT_LIB_DIR)/libtacit.a
+here    := TACIT_LIB_DIR="$(abspath $(TACIT_LIB_DIR))"
+proved  := crates.txt $(shell find crates -name '*.rt' -o -name '*.antt' 2>/dev/null)
+
+.PHONY: all help install demo test c-test compare mutants second clean always
+.DELETE_ON_ERROR:
+
+all: $(library) build/tacit.h build/tacit.pc
+	@echo "$(library), build/tacit.h and build/tacit.pc are ready; 'make help' lists the targets"
+
+help:
+	@echo "make            prove the library and build it: build/libtacit.a, tacit.h, tacit.pc"
+	@echo "make install    put these below PREFIX ($(PREFIX)), below DESTDIR if it is set"
+	@echo "make demo       run examples/friday.c, the incident replayed in words"
+	@echo "make test       the gate: prove every crate from nothing and run every program"
+	@echo "make c-test     check the library through C: tests, sanitizers, header, demo"
+	@echo "make compare    the library against the second implementation; CALLS=$(CALLS) SEED=$(SEED)"
+	@echo "make mutants    break the second implementation rule by rule; each must be noticed"
+	@echo "make second     the second implementation's own tests"
+	@echo "make clean      remove build/"
+	@echo "TACIT_LIB_DIR   where libtacit.a is, to check another one (build)"
+
+# Only a proved library is built. What rt says is shown if it refuses.
+build/libtacit.a: $(proved)
+	@command -v rt >/dev/null || { echo "rt, the Rattle toolchain, is not on the PATH: libtacit.a cannot be built without it" >&2; exit 1; }
+	@mkdir -p build
+	rt staticlib tacit >build/staticlib.log 2>&1 || { cat build/staticlib.log >&2; exit 1; }
+	@cp target/staticlib/libtacit.a $@
+
+build/tacit.h: include/tacit.h
+	@mkdir -p build
+	@cp $< $@
+
+define pc
+prefix=$(PREFIX)
+includedir=$${prefix}/include
+libdir=$${prefix}/lib
+
+Name: tacit
+Description: Application negotiation for targeted LDP sessions (RFC 8223, RFC 7473)
+Version: $(VERSION)
+Cflags: -I$${includedir}
+Libs: -L$${libdir} -ltacit
+endef
+export pc
+
+# Written anew each time, for PREFIX may be another one.
+build/tacit.pc: always
+	@mkdir -p build
+	@printf '%s\n' "$$pc" >$@
+
+install: $(library)
+	install -d "$(DESTDIR)$(PREFIX)/include" "$(DESTDIR)$(PREFIX)/lib/pkgconfig"
+	install -m 644 include/tacit.h "$(DESTDIR)$(PREFIX)/include/tacit.h"
+	install -m 644 "$(library)" "$(DESTDIR)$(PREFIX)/lib/libtacit.a"
+	printf '%s\n' "$$pc" >"$(DESTDIR)$(PREFIX)/lib/pkgconfig/tacit.pc"
+
+demo: $(library)
+	@mkdir -p build
+	@$(here) tests/c/host cc -std=c11 -O2 -Wall -Wextra -Iinclude -o build/friday examples/friday.c "$(library)"
+	@$(here) tests/c/host run build/friday
+
+test:
+	bash .ci/run
+
+c-test: $(library)
+	@$(here) tests/c/run
+
+compare: $(library)
+	@$(here) tests/compare/build
+	@cd tests/compare && cargo run --release --offline -- --calls $(CALLS) --seed $(SEED)
+
+mutants: $(library)
+	@$(here) tests/mutants/run --calls $(CALLS) --seed $(SEED)
+
+second:
+	cd tests/second && cargo test --offline
+
+clean:
+	rm -rf build

@@ -1,0 +1,502 @@
+/*
+ * tacit.h - application negotiation for one targeted LDP session
+ *
+ * Targeted Application Capability (TAC, RFC 8223) and State Advertisement
+ * Control (SAC, RFC 7473). The library reads the optional parameters of
+ * Initialization and Capability messages, keeps the session's state, says which
+ * kinds of label may be sent, and writes the Capability message for a change
+ * made at this end. TCP, timers, Hello and Notification octets, the PDU header,
+ * addresses and the label database stay with the daemon.
+ *
+ * The session is a record of 22 octets that you own. You create it, hand it to
+ * every call, and may store it or copy it as you like. The library keeps
+ * nothing between calls, allocates nothing and calls nothing, not even libc.
+ * Calls on different records may run at once; calls on one record may not,
+ * unless none of them writes it.
+ *
+ * Link with libtacit.a and nothing else. C11 or C++17, x86-64.
+ *
+ *
+ * What holds for every call
+ *
+ * - It returns, whatever the octets, the numbers and the record are. Nothing
+ *   need be checked before.
+ * - A buffer is a pointer and a length in octets. Any alignment will do. With
+ *   length 0 the pointer may be NULL.
+ * - A refusal is a number from 1 to 10 (enum tacit_refusal); 0 is none. It has a
+ *   field of its own and is never mixed with a result. A refused call leaves
+ *   every buffer exactly as it was, and all other fields of its answer are 0.
+ * - Where several refusals apply, the first in the order given at the call is
+ *   the one that you get.
+ * - An event that is "for" certain states is refused with 7 in the others.
+ * - Numbers are 32 bits wide, so that a wrong one is refused and not cut down
+ *   to a right one on its way in.
+ *
+ * What the library cannot check, and you must see to
+ *
+ * - Each pointer is good for the length that goes with it.
+ * - The buffers of one call do not overlap where one of them is written: the
+ *   record and the area, the record and the room.
+ * - A bool is made by C: true or false, not an octet copied from elsewhere.
+ */
+#ifndef TACIT_H
+#define TACIT_H
+
+#include <stdbool.h>
+#include <stddef.h>
+#include <stdint.h>
+
+#ifdef __cplusplus
+extern "C" {
+#define TACIT_ASSERT(fact) static_assert(fact, #fact)
+#else
+#define TACIT_ASSERT(fact) _Static_assert(fact, #fact)
+#endif
+
+/* ------------------------------------------------------------------------ */
+/* Numbers                                                                   */
+/* ------------------------------------------------------------------------ */
+
+#define TACIT_RECORD_LENGTH  22   /* octets of a record */
+#define TACIT_MESSAGE_LENGTH 17   /* octets of a message that we write */
+#define TACIT_MESSAGE_AREA    8   /* where in it the parameter area starts, to its end */
+#define TACIT_AREA_MOST      4096 /* octets that an area may have */
+
+/*
+ * Refusals. A call that asks for one gives it exactly when what stands beside it
+ * is so.
+ */
+enum tacit_refusal {
+    TACIT_NOT_REFUSED         = 0,
+    TACIT_REFUSED_AREA        = 1,  /* the area has more than 4,096 octets */
+    TACIT_REFUSED_CUT_SHORT   = 2,  /* too few octets for the head of a TLV (1 to 3), or
+                                       fewer behind it than its length says */
+    TACIT_REFUSED_LENGTH      = 3,  /* a TAC whose length is not 1, 5, 9, ..; a SAC of
+                                       length 0 or 1; a Dynamic Capability Announcement
+                                       of a length other than 1 */
+    TACIT_REFUSED_TYPE        = 4,  /* a type that we do not read and may not pass over:
+                                       U is 0, and it is not in 0x0500 to 0x05FF */
+    TACIT_REFUSED_REPEATED    = 5,  /* TAC, SAC or Dynamic stands there twice */
+    TACIT_REFUSED_NUMBER      = 6,  /* not a TA-Id (1 to 13), not a kind (0 to 9), or a set
+                                       with a bit that is none of these */
+    TACIT_REFUSED_STATE       = 7,  /* the event is not for the state of the session */
+    TACIT_REFUSED_ROOM        = 8,  /* there is a message to write, and fewer than 17
+                                       octets of room */
+    TACIT_REFUSED_NOT_DYNAMIC = 9,  /* there is a message to write, and the peer takes no
+                                       Capability messages */
+    TACIT_REFUSED_NOT_SOUND   = 10  /* the record is not sound (see tacit_sound); at
+                                       creation, record_len is not 22 */
+};
+
+/* What an event came to. */
+enum tacit_outcome {
+    TACIT_DONE      = 0,  /* it happened; also with every refusal */
+    TACIT_UNCHANGED = 1,  /* it was so already; the record is as it was */
+    TACIT_MISMATCH  = 2   /* no application is common to both ends, or so the peer says */
+};
+
+enum tacit_state_number {
+    TACIT_READY    = 0,   /* waiting for an Initialization */
+    TACIT_OPEN     = 1,   /* labels may be sent */
+    TACIT_HELD     = 2,   /* after a mismatch: wait for a change at either end */
+    TACIT_GONE     = 3,   /* after a mismatch: the adjacency is to be torn down */
+    TACIT_NO_STATE = 255  /* tacit_state of a record that is not sound */
+};
+
+/*
+ * Kinds of label. In a set of kinds, kind k is bit k. The four with an App can
+ * be switched off by the peer with a SAC element of that App.
+ */
+enum tacit_kind {
+    TACIT_KIND_IPV4_PREFIX      = 0,  /* App 1 */
+    TACIT_KIND_IPV6_PREFIX      = 1,  /* App 2 */
+    TACIT_KIND_P2MP             = 2,
+    TACIT_KIND_MP2MP_UP         = 3,
+    TACIT_KIND_MP2MP_DOWN       = 4,
+    TACIT_KIND_HSMP_DOWNSTREAM  = 5,
+    TACIT_KIND_HSMP_UPSTREAM    = 6,
+    TACIT_KIND_PWID             = 7,  /* App 3 */
+    TACIT_KIND_GENERALIZED_PWID = 8,  /* App 4 */
+    TACIT_KIND_P2MP_PW_UPSTREAM = 9
+};
+
+#define TACIT_KIND_SET(kind) (UINT32_C(1) << (kind)) /* the set of this one kind, 0 to 9 */
+#define TACIT_ALL_KINDS      UINT32_C(0x03FF)
+
+/*
+ * Targeted applications by TA-Id, and the kinds that each opens. In a set of
+ * applications, TA-Id n is bit n-1. These are no SAC Apps: the two are numbered
+ * separately, and 4 is LDPv4 Remote LFA here and Generalized PWid there.
+ */
+enum tacit_application {
+    TACIT_APP_LDPV4_TUNNELING      = 1,   /* kind 0 */
+    TACIT_APP_LDPV6_TUNNELING      = 2,   /* kind 1 */
+    TACIT_APP_MLDP_TUNNELING       = 3,   /* kinds 2 to 6 */
+    TACIT_APP_LDPV4_REMOTE_LFA     = 4,   /* kind 0 */
+    TACIT_APP_LDPV6_REMOTE_LFA     = 5,   /* kind 1 */
+    TACIT_APP_FEC128_PW            = 6,   /* kind 7 */
+    TACIT_APP_FEC129_PW            = 7,   /* kind 8: auto-discovered pseudowires */
+    TACIT_APP_SESSION_PROTECTION   = 8,   /* the session's protected kinds */
+    TACIT_APP_ICCP                 = 9,   /* none */
+    TACIT_APP_P2MP_PW              = 10,  /* kind 9 */
+    TACIT_APP_MLDP_NODE_PROTECTION = 11,  /* kinds 2 to 6 */
+    TACIT_APP_IPV4_INTRA_AREA      = 12,  /* kind 0 */
+    TACIT_APP_IPV6_INTRA_AREA      = 13   /* kind 1 */
+};
+
+#define TACIT_APP_SET(ta_id) (UINT32_C(1) << ((ta_id) - 1)) /* the set of this one, 1 to 13 */
+#define TACIT_ALL_APPS       UINT32_C(0x1FFF)
+
+/* ------------------------------------------------------------------------ */
+/* The record                                                                */
+/* ------------------------------------------------------------------------ */
+
+/*
+ * 22 octets, the same on every machine. Numbers of more than one octet have the
+ * least significant octet first.
+ *
+ *    octet   holds
+ *    0, 1    20, the number of octets that follow these two
+ *    2, 3    1, the kind of record
+ *    4       the state (enum tacit_state_number)
+ *    5       flags (enum tacit_flag)
+ *    6, 7    the applications enabled at this end
+ *    8, 9    the applications that the peer lists
+ *    10, 11  the protected kinds
+ *    12      the Apps that the peer has disabled, App n at bit n-1
+ *    13      0
+ *    14-17   the recorded Hello number
+ *    18-21   the number of the next message that we write
+ *
+ * Read it if you must, but write it only through the calls: what you write by
+ * hand may be refused as not sound.
+ */
+enum tacit_flag {
+    TACIT_FLAG_INITIATING     = 0x01,  /* this end began the extended discovery */
+    TACIT_FLAG_ACTIVE         = 0x02,  /* this end opens the connection */
+    TACIT_FLAG_USES_TAC       = 0x04,
+    TACIT_FLAG_DROPS          = 0x08,  /* an initiating, active end goes to Gone on a mismatch */
+    TACIT_FLAG_IN_FORCE       = 0x10,  /* negotiation limits what may be sent */
+    TACIT_FLAG_PEER_DYNAMIC   = 0x20,  /* the peer takes Capability messages */
+    TACIT_FLAG_HELLO_RECORDED = 0x40   /* 0x80 is always 0 */
+};
+
+/* ------------------------------------------------------------------------ */
+/* Answers                                                                   */
+/* ------------------------------------------------------------------------ */
+
+/* A part of an area: octets start to start + length - 1. Length 0: absent. */
+struct tacit_part {
+    uint16_t start;
+    uint16_t length;
+};
+
+/* What an area holds. */
+struct tacit_reading {
+    uint8_t refusal;
+    uint8_t dynamic;        /* 1: a Dynamic Capability Announcement is there */
+    struct tacit_part tac;  /* the TAC's value: the octet with S, then elements of 4 octets */
+    struct tacit_part sac;  /* the SAC's value: an octet, then elements of 1 octet */
+};
+
+/* What an event did. */
+struct tacit_answer {
+    uint8_t refusal;
+    uint8_t outcome;   /* enum tacit_outcome */
+    uint16_t lost;     /* kinds permitted before and not after: withdraw their labels */
+    uint16_t gained;   /* kinds permitted after and not before: send their labels */
+    uint16_t written;  /* octets written to the room from its start: 0 or 17 */
+};
+
+struct tacit_permission {
+    uint8_t refusal;
+    uint8_t permitted;  /* 1: labels of this kind may be sent */
+};
+
+struct tacit_kinds {
+    uint8_t refusal;
+    uint16_t kinds;  /* the set of kinds that may be sent */
+};
+
+struct tacit_retry {
+    uint8_t refusal;
+    uint16_t interval;  /* 65,535, the longest there is, in Held; 0 in every other state */
+};
+
+TACIT_ASSERT(sizeof(bool) == 1);
+TACIT_ASSERT(sizeof(struct tacit_part) == 4);
+TACIT_ASSERT(offsetof(struct tacit_part, start) == 0);
+TACIT_ASSERT(offsetof(struct tacit_part, length) == 2);
+TACIT_ASSERT(sizeof(struct tacit_reading) == 10);
+TACIT_ASSERT(offsetof(struct tacit_reading, refusal) == 0);
+TACIT_ASSERT(offsetof(struct tacit_reading, dynamic) == 1);
+TACIT_ASSERT(offsetof(struct tacit_reading, tac) == 2);
+TACIT_ASSERT(offsetof(struct tacit_reading, sac) == 6);
+TACIT_ASSERT(sizeof(struct tacit_answer) == 8);
+TACIT_ASSERT(offsetof(struct tacit_answer, refusal) == 0);
+TACIT_ASSERT(offsetof(struct tacit_answer, outcome) == 1);
+TACIT_ASSERT(offsetof(struct tacit_answer, lost) == 2);
+TACIT_ASSERT(offsetof(struct tacit_answer, gained) == 4);
+TACIT_ASSERT(offsetof(struct tacit_answer, written) == 6);
+TACIT_ASSERT(sizeof(struct tacit_permission) == 2);
+TACIT_ASSERT(offsetof(struct tacit_permission, refusal) == 0);
+TACIT_ASSERT(offsetof(struct tacit_permission, permitted) == 1);
+TACIT_ASSERT(sizeof(struct tacit_kinds) == 4);
+TACIT_ASSERT(offsetof(struct tacit_kinds, refusal) == 0);
+TACIT_ASSERT(offsetof(struct tacit_kinds, kinds) == 2);
+TACIT_ASSERT(sizeof(struct tacit_retry) == 4);
+TACIT_ASSERT(offsetof(struct tacit_retry, refusal) == 0);
+TACIT_ASSERT(offsetof(struct tacit_retry, interval) == 2);
+
+/* ------------------------------------------------------------------------ */
+/* Calls                                                                     */
+/* ------------------------------------------------------------------------ */
+
+/*
+ * Reads an area: the TLVs of an Initialization message, Common Session
+ * Parameters included or not, or those of a Capability message behind its
+ * message number. The events below read the area themselves; this call is for a
+ * log, or for a daemon that looks into the lists on its own.
+ *
+ * Three types are read: TAC 0x050F, SAC 0x050D and Dynamic Capability
+ * Announcement 0x0506, whatever their U and F. Other types are passed over if U
+ * is 1 or if they lie in 0x0500 to 0x05FF, and may repeat.
+ *
+ * Refusals: 1; then TLV by TLV from the left, for each 2, 4, 5, 3.
+ */
+struct tacit_reading tacit_read(const uint8_t *area, size_t area_len);
+
+/*
+ * Makes a fresh session: Ready, no Hello recorded, nothing known of the peer.
+ * record_len must be 22; whatever stood there is overwritten.
+ *
+ *   initiating       this end began the extended discovery; else it responds
+ *   active           this end opens the connection; else it is passive
+ *   uses_tac         negotiate by TAC; if false a peer's TAC has no effect
+ *   drops            on a mismatch an initiating, active end goes to Gone, not
+ *                    to Held; of no effect at any other end
+ *   protected_kinds  the set of kinds that Session Protection opens
+ *   enabled          the set of applications that this end supports
+ *   first_number     the number of the first message that we write
+ *
+ * Returns the refusal: 10, 6. Refused, no record is written.
+ */
+uint8_t tacit_create(uint8_t *record, size_t record_len, bool initiating, bool active,
+                     bool uses_tac, bool drops, uint32_t protected_kinds, uint32_t enabled,
+                     uint32_t first_number);
+
+/*
+ * The peer's Initialization has arrived. For Ready.
+ *
+ * Negotiation is in force if the session uses TAC and the area holds one, with
+ * elements or without. The peer then lists every known TA-Id in it, in any
+ * order, whatever S and E are. A SAC element with D = 1 disables its kind; with
+ * D = 0 it does nothing. A Dynamic Capability Announcement says that the peer takes
+ * Capability messages.
+ *
+ * DONE: the session is Open. Without negotiation in force that is as RFC 5036
+ * has it, and every kind is permitted that SAC has not disabled.
+ *
+ * MISMATCH: negotiation is in force and no application is both enabled here and
+ * listed by the peer. Send the Notification and close the connection; then go
+ * by the state. Held: do not try again before tacit_retry_interval or a change.
+ * Gone: tear down the adjacency. Ready, at a passive end: wait for the peer.
+ *
+ * Refusals: 10, 7, 1; then TLV by TLV from the left, for each 2, 4, 5, 3.
+ * One bad TLV refuses the message; nothing of it is applied.
+ */
+struct tacit_answer tacit_initialization(uint8_t *record, size_t record_len, const uint8_t *area,
+                                         size_t area_len);
+
+/*
+ * A Capability message of the peer has arrived. For Open.
+ *
+ * If the session uses TAC: a TAC with S = 1 adds applications to the peer's list
+ * (E = 1) and removes them (E = 0), and of two elements with one TA-Id the first
+ * counts. If negotiation was not in force it comes into force, with a list that
+ * starts empty. A TAC with S = 0 empties the list and puts negotiation out of
+ * force. SAC elements apply in their order: D = 1 disables a kind, D = 0 enables
+ * it. A Dynamic Capability Announcement has no effect.
+ *
+ * DONE: still Open; see lost and gained. MISMATCH: no common application is
+ * left; do as at tacit_initialization.
+ *
+ * Refusals: as at tacit_initialization.
+ */
+struct tacit_answer tacit_capability(uint8_t *record, size_t record_len, const uint8_t *area,
+                                     size_t area_len);
+
+/*
+ * The operator switches an application on or off. For every state.
+ *
+ * UNCHANGED: it was so already. DONE: it is set, and Held has become Ready; Gone
+ * stays Gone. In Open with TAC used a Capability message of 17 octets stands at
+ * the start of the room: send it. It is a whole LDP message, without PDU header;
+ * octets of room behind it are as they were. MISMATCH: it is set, nothing is
+ * written, and no common application is left; do as at tacit_initialization.
+ *
+ * Where nothing is written the room may be NULL with length 0. In Open with TAC
+ * used 9 and 8 are asked even if a mismatch would follow.
+ *
+ * Refusals: 10, 6, then UNCHANGED, then 9, 8.
+ */
+struct tacit_answer tacit_local_change(uint8_t *record, size_t record_len, uint32_t ta_id, bool on,
+                                       uint8_t *room, size_t room_len);
+
+/*
+ * The peer's mismatch Notification has arrived. For Ready and Open. The outcome
+ * is MISMATCH, and the state is the same as if this end had found it.
+ *
+ * Refusals: 10, 7.
+ */
+struct tacit_answer tacit_mismatch(uint8_t *record, size_t record_len);
+
+/*
+ * A Hello with this configuration sequence number has arrived. For every state.
+ *
+ * DONE: the number is recorded, being the first, or higher than the one that was
+ * recorded. If it is higher, Held becomes Ready; Gone becomes Ready in any case.
+ * UNCHANGED: it is equal or lower, and nothing happens.
+ *
+ * Refusals: 10.
+ */
+struct tacit_answer tacit_hello(uint8_t *record, size_t record_len, uint32_t number);
+
+/*
+ * The connection has closed. For Open, which becomes Ready. After a mismatch
+ * the session has left Open already and needs no such call.
+ *
+ * Refusals: 10, 7.
+ */
+struct tacit_answer tacit_closed(uint8_t *record, size_t record_len);
+
+/*
+ * May labels of this kind be sent now? Only in Open; not a kind that the peer
+ * has disabled; and, with negotiation in force, only a kind that some
+ * application opens which is both enabled here and listed by the peer.
+ *
+ * Refusals: 10, 6. Refused, nothing is permitted.
+ */
+struct tacit_permission tacit_permitted(const uint8_t *record, size_t record_len, uint32_t kind);
+
+/* All kinds at once: the set of those that tacit_permitted permits. Refusals: 10. */
+struct tacit_kinds tacit_permitted_kinds(const uint8_t *record, size_t record_len);
+
+/* How long to wait before the next attempt at a session. Refusals: 10. */
+struct tacit_retry tacit_retry_interval(const uint8_t *record, size_t record_len);
+
+/*
+ * Is this a record that a session can have? It has 22 octets; octets 0 to 3 and
+ * 13 are as the table says, the state is 0 to 3, and no bit is 1 that has no
+ * meaning. Besides, what it says must fit together:
+ *
+ * - if negotiation is in force, the session is Open and uses TAC, and the sets of
+ *   enabled and listed applications meet; if it is not, nothing is listed;
+ * - if the session is not Open, no App is disabled and the peer is not dynamic;
+ * - if no Hello is recorded, its number is 0;
+ * - a session in Held is active, and not one that goes to Gone instead (one that
+ *   initiates and drops);
+ * - a session in Gone is active, initiates and drops, and has no Hello recorded.
+ *
+ * Every record that tacit_create or an event leaves, from a sound one, is sound.
+ */
+bool tacit_sound(const uint8_t *record, size_t record_len);
+
+/* ------------------------------------------------------------------------ */
+/* Words for a log                                                           */
+/* ------------------------------------------------------------------------ */
+
+/*
+ * Each takes any number and gives a text that is never NULL and need not be
+ * freed: "unknown" for a number that means nothing.
+ */
+
+static inline const char *tacit_refusal_text(uint32_t refusal)
+{
+    switch (refusal) {
+    case TACIT_NOT_REFUSED: return "not refused";
+    case TACIT_REFUSED_AREA: return "area over 4,096 octets";
+    case TACIT_REFUSED_CUT_SHORT: return "TLV cut short";
+    case TACIT_REFUSED_LENGTH: return "TLV of a wrong length";
+    case TACIT_REFUSED_TYPE: return "type not known and not to be passed over";
+    case TACIT_REFUSED_REPEATED: return "TLV repeated";
+    case TACIT_REFUSED_NUMBER: return "application, kind or set out of range";
+    case TACIT_REFUSED_STATE: return "event not for this state";
+    case TACIT_REFUSED_ROOM: return "under 17 octets of room";
+    case TACIT_REFUSED_NOT_DYNAMIC: return "peer takes no Capability messages";
+    case TACIT_REFUSED_NOT_SOUND: return "record not sound, or not of 22 octets";
+    default: return "unknown";
+    }
+}
+
+static inline const char *tacit_outcome_text(uint32_t outcome)
+{
+    switch (outcome) {
+    case TACIT_DONE: return "done";
+    case TACIT_UNCHANGED: return "unchanged";
+    case TACIT_MISMATCH: return "mismatch";
+    default: return "unknown";
+    }
+}
+
+static inline const char *tacit_state_text(uint32_t state)
+{
+    switch (state) {
+    case TACIT_READY: return "Ready";
+    case TACIT_OPEN: return "Open";
+    case TACIT_HELD: return "Held";
+    case TACIT_GONE: return "Gone";
+    default: return "unknown";
+    }
+}
+
+static inline const char *tacit_kind_text(uint32_t kind)
+{
+    switch (kind) {
+    case TACIT_KIND_IPV4_PREFIX: return "IPv4 prefix";
+    case TACIT_KIND_IPV6_PREFIX: return "IPv6 prefix";
+    case TACIT_KIND_P2MP: return "P2MP";
+    case TACIT_KIND_MP2MP_UP: return "MP2MP-up";
+    case TACIT_KIND_MP2MP_DOWN: return "MP2MP-down";
+    case TACIT_KIND_HSMP_DOWNSTREAM: return "HSMP-downstream";
+    case TACIT_KIND_HSMP_UPSTREAM: return "HSMP-upstream";
+    case TACIT_KIND_PWID: return "PWid";
+    case TACIT_KIND_GENERALIZED_PWID: return "Generalized PWid";
+    case TACIT_KIND_P2MP_PW_UPSTREAM: return "P2MP PW Upstream";
+    default: return "unknown";
+    }
+}
+
+static inline const char *tacit_application_text(uint32_t ta_id)
+{
+    switch (ta_id) {
+    case TACIT_APP_LDPV4_TUNNELING: return "LDPv4 Tunneling";
+    case TACIT_APP_LDPV6_TUNNELING: return "LDPv6 Tunneling";
+    case TACIT_APP_MLDP_TUNNELING: return "mLDP Tunneling";
+    case TACIT_APP_LDPV4_REMOTE_LFA: return "LDPv4 Remote LFA";
+    case TACIT_APP_LDPV6_REMOTE_LFA: return "LDPv6 Remote LFA";
+    case TACIT_APP_FEC128_PW: return "FEC 128 PW";
+    case TACIT_APP_FEC129_PW: return "FEC 129 PW";
+    case TACIT_APP_SESSION_PROTECTION: return "Session Protection";
+    case TACIT_APP_ICCP: return "ICCP";
+    case TACIT_APP_P2MP_PW: return "P2MP PW";
+    case TACIT_APP_MLDP_NODE_PROTECTION: return "mLDP Node Protection";
+    case TACIT_APP_IPV4_INTRA_AREA: return "IPv4 intra-area FECs";
+    case TACIT_APP_IPV6_INTRA_AREA: return "IPv6 intra-area FECs";
+    default: return "unknown";
+    }
+}
+
+/* The state of a record, or TACIT_NO_STATE, 255, if it is not sound. */
+static inline uint8_t tacit_state(const uint8_t *record, size_t record_len)
+{
+    return tacit_sound(record, record_len) ? record[4] : (uint8_t)TACIT_NO_STATE;
+}
+
+#undef TACIT_ASSERT
+
+#ifdef __cplusplus
+}
+#endif
+
+#endif

@@ -1,0 +1,160 @@
+/*
+ * Records and areas that were damaged. What they should give is not known here;
+ * the wrappers check what holds of any call, and that no call looks outside.
+ */
+#include "harness.h"
+
+#define APP(n) TACIT_APP_SET(n)
+
+static void every_call(const struct record *original)
+{
+    struct octets area = hex("85060001 80 850F0009 80 00040000 00078000 850D0003 80 C0 10");
+    uint8_t room[24] = {0};
+    permitted_kinds(original);
+    retry_interval(original);
+    struct record record = *original;
+    initialization(&record, area.at, area.length);
+    record = *original;
+    capability(&record, area.at, area.length);
+    record = *original;
+    local_change(&record, 4, true, room, sizeof room);
+    record = *original;
+    local_change(&record, 7, false, room, sizeof room);
+    record = *original;
+    mismatch(&record);
+    record = *original;
+    hello(&record, 9);
+    record = *original;
+    closed(&record);
+}
+
+/* Each octet of four sound records at each of its values. */
+static void records(void)
+{
+    static const char *const rows[] = {
+        "1400 0100 00 47 4800 0000 0000 00 00 05000000 01000000",
+        "1400 0100 01 37 4800 4000 0300 09 00 00000000 FFFFFFFF",
+        "1400 0100 02 47 4800 0000 0000 00 00 05000000 01000000",
+        "1400 0100 03 0F 4800 0000 0000 00 00 00000000 01000000",
+    };
+    for (size_t row = 0; row < sizeof rows / sizeof *rows; row++) {
+        struct record original = record_of(rows[row]);
+        CHECK(sound(&original));
+        for (size_t at = 0; at < TACIT_RECORD_LENGTH; at++) {
+            for (unsigned value = 0; value < 256; value++) {
+                trying("record %zu with octet %zu as %u", row, at, value);
+                struct record record = original;
+                record.octets[at] = (uint8_t)value;
+                bool same = value == original.octets[at];
+                if (at < 4 || at == 13)
+                    CHECK(sound(&record) == same);
+                if (at >= 18)
+                    CHECK(sound(&record));
+                every_call(&record);
+            }
+        }
+    }
+}
+
+static void records_without_order(void)
+{
+    for (int i = 0; i < 2000; i++) {
+        struct record record = record_of("1400 0100 00 00 0000 0000 0000 00 00 00000000 00000000");
+        trying("record %d without order", i);
+        for (size_t at = i % 2 ? 4 : 0; at < TACIT_RECORD_LENGTH; at++)
+            record.octets[at] = (uint8_t)any_number();
+        every_call(&record);
+    }
+}
+
+/* An area cut at each place, and with each of its bits turned. */
+static void areas(void)
+{
+    struct octets whole = hex("85000002 0001 85060001 80 850F000D 80 00048000 00078000 000A0000"
+                              "850D0003 80 C0 10 8700 0004 00000000");
+    struct record ready = fresh(APP(4) | APP(7));
+    struct record open = opened(APP(4) | APP(7), "85060001 80 850F0009 80 00048000 00078000");
+    for (size_t length = 0; length <= whole.length; length++) {
+        trying("an area cut to %zu octets", length);
+        struct record record = ready;
+        uint8_t refusal = initialization(&record, whole.at, length).refusal;
+        CHECK(refusal == read_area(whole.at, length).refusal);
+        CHECK(refusal == 0 || refusal == 2);
+        record = open;
+        CHECK(capability(&record, whole.at, length).refusal == refusal);
+    }
+    for (size_t bit = 0; bit < whole.length * 8; bit++) {
+        trying("an area with bit %zu turned", bit);
+        struct octets area = whole;
+        area.at[bit / 8] ^= (uint8_t)(0x80 >> bit % 8);
+        uint8_t refusal = read_area(area.at, area.length).refusal;
+        struct record record = ready;
+        CHECK(initialization(&record, area.at, area.length).refusal == refusal);
+        record = open;
+        CHECK(capability(&record, area.at, area.length).refusal == refusal);
+    }
+}
+
+static void areas_without_order(void)
+{
+    struct record ready = fresh(TACIT_ALL_APPS);
+    struct record open = opened(TACIT_ALL_APPS, "850F0005 80 00048000");
+    for (int i = 0; i < 5000; i++) {
+        trying("area %d without order", i);
+        struct octets area = {{0}, any_number() % 64};
+        for (size_t at = 0; at < area.length; at++)
+            area.at[at] = (uint8_t)(i % 2 ? any_number() : any_number() % 8);
+        uint8_t refusal = read_area(area.at, area.length).refusal;
+        struct record record = ready;
+        CHECK(initialization(&record, area.at, area.length).refusal == refusal);
+        record = open;
+        CHECK(capability(&record, area.at, area.length).refusal == refusal);
+    }
+}
+
+/* Long ways through all events, from fresh sessions of every sort. */
+static void long_ways(void)
+{
+    static const char *const texts[] = {
+        "",
+        "85060001 80",
+        "85060001 80 850F0009 80 00048000 00078000",
+        "85060001 80 850F0005 80 00078000 850D0003 80 C0 B0",
+        "850F0001 00",
+        "850F0001 80",
+        "850F0005 80 00070000",
+        "850D0002 80 40",
+        "850F0005 80 000A8000 06000000",
+    };
+    for (unsigned ends = 0; ends < 16; ends++) {
+        struct record record = {{0}, TACIT_RECORD_LENGTH};
+        create(&record, ends & 1, ends & 2, ends & 4, ends & 8, 0x101, APP(4) | APP(7) | APP(8),
+               any_number());
+        for (int step = 0; step < 300; step++) {
+            trying("step %d of a session of sort %u", step, ends);
+            const char *text = texts[any_number() % (sizeof texts / sizeof *texts)];
+            uint8_t room[20] = {0};
+            switch (any_number() % 8) {
+            case 0: mismatch(&record); break;
+            case 1: hello(&record, any_number() % 100 + (uint32_t)step); break;
+            case 2: closed(&record); break;
+            case 3: case 4: capability_text(&record, text); break;
+            case 5:
+                local_change(&record, any_number() % 15, any_number() % 2, room, any_number() % 21);
+                break;
+            default: initialization_text(&record, text); break;
+            }
+            if (!CHECK(sound(&record)))
+                return;
+        }
+    }
+}
+
+void damage(void)
+{
+    test("records with one octet changed", records);
+    test("records without order", records_without_order);
+    test("areas cut and with bits turned", areas);
+    test("areas without order", areas_without_order);
+    test("long ways through all events", long_ways);
+}

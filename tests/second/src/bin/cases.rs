@@ -1,0 +1,189 @@
+//! Prints what the calls on standard input come to, a line for each. The head
+//! of make_cases.rs says how calls and lines are written.
+
+use second::{Answer, Part, RECORD_LENGTH};
+use std::io::{self, Read, Write};
+
+/// Octets of input that are read.
+const MOST: u64 = 32_768;
+
+/// Octets that a room has at the most.
+const MOST_ROOM: u8 = 40;
+
+/// What is left of the input. Nothing is handed out that is cut short.
+struct Input<'a>(&'a [u8]);
+
+impl<'a> Input<'a> {
+    fn octets(&mut self, length: usize) -> Option<&'a [u8]> {
+        let (taken, rest) = self.0.split_at_checked(length)?;
+        self.0 = rest;
+        Some(taken)
+    }
+
+    fn array<const N: usize>(&mut self) -> Option<[u8; N]> {
+        self.octets(N)?.try_into().ok()
+    }
+
+    fn octet(&mut self) -> Option<u8> {
+        self.array().map(u8::from_le_bytes)
+    }
+
+    fn number(&mut self) -> Option<u32> {
+        self.array().map(u32::from_le_bytes)
+    }
+
+    fn area(&mut self) -> Option<&'a [u8]> {
+        let length = self.array().map(u16::from_le_bytes)?;
+        self.octets(length.into())
+    }
+}
+
+/// The words of one line.
+struct Line(Vec<String>);
+
+impl Line {
+    fn number(&mut self, number: impl Into<u32>) {
+        self.0.push(format!("{:x}", number.into()));
+    }
+
+    fn octets(&mut self, octets: &[u8]) {
+        let digits: String = octets.iter().map(|octet| format!("{octet:02x}")).collect();
+        self.0.push(if digits.is_empty() {
+            "-".into()
+        } else {
+            digits
+        });
+    }
+
+    fn answer(&mut self, answer: Answer) {
+        self.number(answer.refusal);
+        self.number(answer.outcome);
+        self.number(answer.lost);
+        self.number(answer.gained);
+        self.number(answer.written);
+    }
+
+    fn part(&mut self, part: Part) {
+        self.number(part.start);
+        self.number(part.length);
+    }
+}
+
+/// Makes the next call; none if nothing is left, or no whole call of ours.
+fn call(input: &mut Input, record: &mut [u8; RECORD_LENGTH]) -> Option<Line> {
+    let which = input.octet()?;
+    let mut line = Line(Vec::new());
+    line.number(which);
+    match which {
+        1 => {
+            let roles = input.octet()?;
+            let role = |bit: u8| roles >> bit & 1 == 1;
+            let (protected, enabled, first) = (input.number()?, input.number()?, input.number()?);
+            line.number(second::create(
+                record,
+                role(0),
+                role(1),
+                role(2),
+                role(3),
+                protected,
+                enabled,
+                first,
+            ));
+            line.octets(record);
+        }
+        2 => {
+            line.answer(second::initialization(record, input.area()?));
+            line.octets(record);
+        }
+        3 => {
+            line.answer(second::capability(record, input.area()?));
+            line.octets(record);
+        }
+        4 => {
+            let (ta_id, on, length) = (input.number()?, input.octet()?, input.octet()?);
+            let mut room = vec![0xEE; length.min(MOST_ROOM).into()];
+            line.answer(second::local_change(record, ta_id, on != 0, &mut room));
+            line.octets(record);
+            line.octets(&room);
+        }
+        5 => {
+            line.answer(second::mismatch(record));
+            line.octets(record);
+        }
+        6 => {
+            line.answer(second::hello(record, input.number()?));
+            line.octets(record);
+        }
+        7 => {
+            line.answer(second::closed(record));
+            line.octets(record);
+        }
+        8 => {
+            let permission = second::permitted(record, input.number()?);
+            line.number(permission.refusal);
+            line.number(permission.permitted);
+        }
+        9 => {
+            let kinds = second::permitted_kinds(record);
+            line.number(kinds.refusal);
+            line.number(kinds.kinds);
+        }
+        10 => {
+            let retry = second::retry_interval(record);
+            line.number(retry.refusal);
+            line.number(retry.interval);
+        }
+        11 => line.number(second::sound(record)),
+        12 => {
+            let reading = second::read(input.area()?);
+            line.number(reading.refusal);
+            line.number(reading.dynamic);
+            line.part(reading.tac);
+            line.part(reading.sac);
+        }
+        13 => {
+            *record = input.array()?;
+            line.octets(record);
+        }
+        _ => return None,
+    }
+    Some(line)
+}
+
+/// The lines of all calls.
+fn lines(calls: &[u8]) -> String {
+    let mut input = Input(calls);
+    let mut record = [0; RECORD_LENGTH];
+    let mut text = String::new();
+    while let Some(line) = call(&mut input, &mut record) {
+        text += &line.0.join(" ");
+        text += "\n";
+    }
+    text
+}
+
+fn main() -> io::Result<()> {
+    let mut calls = Vec::new();
+    io::stdin().take(MOST).read_to_end(&mut calls)?;
+    io::stdout().write_all(lines(&calls).as_bytes())
+}
+
+#[cfg(test)]
+mod tests {
+    use super::*;
+
+    #[test]
+    fn the_stored_lines_are_these() {
+        let stored = concat!(env!("CARGO_MANIFEST_DIR"), "/../../crates/cases/");
+        let calls = std::fs::read(format!("{stored}stdin")).unwrap();
+        let expected = std::fs::read_to_string(format!("{stored}stdout")).unwrap();
+        assert!(lines(&calls) == expected, "stdout is not what stdin gives");
+    }
+
+    #[test]
+    fn a_call_cut_short_ends_the_run() {
+        assert_eq!(lines(&[11, 6, 1, 0, 0]), "b 0\n");
+        assert_eq!(lines(&[12, 1, 0]), "");
+        assert_eq!(lines(&[11, 0, 11]), "b 0\n");
+    }
+}

@@ -1,0 +1,485 @@
+//! Makes the calls that crates/cases replays over the library. They, and the
+//! lines that are expected, are made anew by
+//!
+//!     cd tests/second
+//!     cargo run --offline --bin make_cases > ../../crates/cases/stdin
+//!     cargo run --offline --bin cases < ../../crates/cases/stdin > ../../crates/cases/stdout
+//!
+//! # The calls
+//!
+//! One record lives through the whole input, all its 22 octets 0 at first. A
+//! call is one octet with its number, and then its arguments; in parentheses
+//! the octets of each, numbers least significant octet first.
+//!
+//! |  n | call            | arguments                                          |
+//! |----|-----------------|----------------------------------------------------|
+//! |  1 | create          | roles (1), protected kinds (4), enabled (4), first |
+//! |    |                 | message number (4)                                 |
+//! |  2 | initialization  | length of the area (2), the area                   |
+//! |  3 | capability      | length of the area (2), the area                   |
+//! |  4 | local change    | TA-Id (4), on or 0 (1), length of the room (1)     |
+//! |  5 | mismatch        |                                                    |
+//! |  6 | hello           | number (4)                                         |
+//! |  7 | closed          |                                                    |
+//! |  8 | permitted       | kind (4)                                           |
+//! |  9 | permitted kinds |                                                    |
+//! | 10 | retry interval  |                                                    |
+//! | 11 | sound           |                                                    |
+//! | 12 | read            | length of the area (2), the area                   |
+//! | 13 | set the record  | what takes its place (22), sound or not            |
+//!
+//! Roles from bit 0: initiating, active, uses TAC, drops; the other bits are not
+//! read. A room has as many octets as asked for, but never more than 40, and each
+//! is 0xEE before the call. The run ends at the end of the input, at a call whose
+//! arguments are cut short, and at any other number. What lies beyond 32,768
+//! octets is not read.
+//!
+//! # The lines
+//!
+//! One for each call: words with one space between, and a line feed. A number is
+//! lower-case hexadecimal without leading zeros. Octets are one word, two
+//! lower-case hexadecimal digits for each, or `-` if there are none. The first
+//! word is the call's number; then come
+//!
+//! |   n | words                                                              |
+//! |-----|--------------------------------------------------------------------|
+//! |   1 | refusal, record                                                    |
+//! | 2-7 | refusal, outcome, lost, gained, written, record; for 4 also room   |
+//! |   8 | refusal, permitted                                                 |
+//! |   9 | refusal, kinds                                                     |
+//! |  10 | refusal, interval                                                  |
+//! |  11 | 0 or 1                                                             |
+//! |  12 | refusal, dynamic, start and length of TAC, start and length of SAC |
+//! |  13 | record                                                             |
+
+use std::io::{self, Write};
+
+const INITIATING: u8 = 1;
+const ACTIVE: u8 = 2;
+const USES_TAC: u8 = 4;
+const DROPS: u8 = 8;
+
+/// Roles with which a mismatch leads to Held.
+const HOLDS: u8 = INITIATING | ACTIVE | USES_TAC;
+
+/// Just enough room.
+const ROOM: u8 = 17;
+
+/// TAC with 4 and 7, a dynamic peer.
+const BOTH_DYNAMIC: &str = "850F0009 80 00048000 00078000 85060001 80";
+
+/// Octets from hexadecimal; blanks do not matter.
+fn hex(text: &str) -> Vec<u8> {
+    let digits: Vec<u8> = text
+        .chars()
+        .filter(|digit| !digit.is_whitespace())
+        .map(|digit| digit.to_digit(16).expect("a hexadecimal digit") as u8)
+        .collect();
+    assert!(digits.len().is_multiple_of(2), "half an octet in {text}");
+    digits
+        .chunks(2)
+        .map(|pair| pair[0] << 4 | pair[1])
+        .collect()
+}
+
+/// The set of these applications, TA-Id n at bit n-1.
+fn applications(ta_ids: &[u32]) -> u32 {
+    ta_ids.iter().map(|ta_id| 1 << (ta_id - 1)).sum()
+}
+
+/// The calls so far, as octets.
+struct Calls(Vec<u8>);
+
+impl Calls {
+    fn octets(&mut self, octets: &[u8]) {
+        self.0.extend_from_slice(octets);
+    }
+
+    fn number(&mut self, number: u32) {
+        self.octets(&number.to_le_bytes());
+    }
+
+    fn area(&mut self, area: &[u8]) {
+        let length = u16::try_from(area.len()).expect("a length of 16 bits");
+        self.octets(&length.to_le_bytes());
+        self.octets(area);
+    }
+
+    fn create(&mut self, roles: u8, protected: u32, enabled: u32, first: u32) {
+        self.octets(&[1, roles]);
+        self.number(protected);
+        self.number(enabled);
+        self.number(first);
+    }
+
+    fn initialization(&mut self, area: &str) {
+        self.octets(&[2]);
+        self.area(&hex(area));
+    }
+
+    fn capability(&mut self, area: &str) {
+        self.octets(&[3]);
+        self.area(&hex(area));
+    }
+
+    fn local_change(&mut self, ta_id: u32, on: bool, room: u8) {
+        self.octets(&[4]);
+        self.number(ta_id);
+        self.octets(&[on.into(), room]);
+    }
+
+    fn mismatch(&mut self) {
+        self.octets(&[5]);
+    }
+
+    fn hello(&mut self, number: u32) {
+        self.octets(&[6]);
+        self.number(number);
+    }
+
+    fn closed(&mut self) {
+        self.octets(&[7]);
+    }
+
+    fn permitted(&mut self, kind: u32) {
+        self.octets(&[8]);
+        self.number(kind);
+    }
+
+    fn permitted_kinds(&mut self) {
+        self.octets(&[9]);
+    }
+
+    fn retry_interval(&mut self) {
+        self.octets(&[10]);
+    }
+
+    fn sound(&mut self) {
+        self.octets(&[11]);
+    }
+
+    fn read(&mut self, area: &str) {
+        self.octets(&[12]);
+        self.area(&hex(area));
+    }
+
+    fn record(&mut self, record: &str) {
+        let record = hex(record);
+        assert!(record.len() == 22, "a record of {} octets", record.len());
+        self.octets(&[13]);
+        self.octets(&record);
+    }
+
+    /// A fresh session with these applications enabled.
+    fn enabling(&mut self, ta_ids: &[u32]) {
+        self.create(HOLDS, 0, applications(ta_ids), 0);
+    }
+}
+
+/// The twelve examples that the scope of work gives with their results.
+fn examples(calls: &mut Calls) {
+    fn fourth(calls: &mut Calls) {
+        calls.enabling(&[7]);
+        calls.initialization("850F0009 80 00048000 00078000");
+    }
+
+    // 1
+    calls.enabling(&[]);
+    calls.initialization("");
+    calls.permitted_kinds();
+    // 2
+    calls.enabling(&[4, 7]);
+    calls.initialization("850F0005 80 00048000");
+    calls.permitted_kinds();
+    // 3
+    calls.enabling(&[4, 7]);
+    calls.initialization("850F0001 80");
+    // 4 to 6
+    fourth(calls);
+    calls.permitted_kinds();
+    calls.capability("850D0002 80 C0");
+    calls.capability("850D0002 80 40");
+    // 7
+    fourth(calls);
+    calls.capability("850F0009 80 00070000 00078000");
+    // 8
+    fourth(calls);
+    calls.capability("850D0002 80 C0");
+    calls.capability("850F0001 00");
+    // 9
+    calls.enabling(&[4]);
+    calls.initialization("850F0004 80 000480");
+    calls.initialization("850F0005 80");
+    // 10
+    calls.initialization("06000000");
+    calls.initialization("86000000");
+    // 11
+    calls.enabling(&[4]);
+    calls.initialization("850F0005 80 000E8000");
+    calls.enabling(&[4]);
+    calls.initialization("850F0005 80 00040000");
+    // 12
+    calls.create(HOLDS, 0, applications(&[7]), 7);
+    calls.initialization(BOTH_DYNAMIC);
+    calls.local_change(4, true, 16);
+    calls.local_change(4, true, ROOM);
+}
+
+/// The stored record that the scope of work gives, made and set.
+fn stored(calls: &mut Calls) {
+    calls.create(HOLDS, 0, applications(&[4, 7]), 1);
+    calls.record("1400 0100 00 07 4800 0000 0000 00 00 00000000 01000000");
+    calls.sound();
+}
+
+/// Every event in every state that a session with these roles has. Areas in a
+/// state that they are not for are broken, since 7 comes before 2. What is told
+/// of Held and Gone is told of an active end; a passive one is Ready there, and
+/// Open after the Initialization.
+fn life(calls: &mut Calls, roles: u8) {
+    calls.create(roles, 0, applications(&[4, 7]), 0x0102_0304);
+    // Ready
+    calls.closed();
+    calls.capability("85");
+    calls.hello(0x7FFF_FFFF);
+    calls.local_change(3, true, 0);
+    calls.initialization("850D0002 80 90 850F0009 80 00048000 00078000 85060001 80");
+    // Open
+    calls.initialization("85");
+    calls.hello(0x7FFF_FFFE);
+    calls.capability("850D0003 80 10 A0");
+    calls.local_change(7, false, ROOM);
+    calls.closed();
+    calls.initialization(BOTH_DYNAMIC);
+    calls.mismatch();
+    // Held or Gone
+    calls.capability("85");
+    calls.closed();
+    calls.initialization("");
+    // Held becomes Ready, Gone stays
+    calls.local_change(10, true, ROOM);
+    calls.mismatch();
+    // Gone becomes Ready by any Hello, Held by a higher one
+    calls.hello(0x7FFF_FFFF);
+    calls.mismatch();
+    calls.hello(0x8000_0000);
+    calls.initialization("850F0005 80 00068000");
+}
+
+/// What each application opens, on and off beside one that opens nothing. The
+/// message number wraps on the way.
+fn applications_opened(calls: &mut Calls) {
+    let mut area = String::from("85060001 00 850F0035 80");
+    for ta_id in 1..=13 {
+        area += &format!("{ta_id:04X}8000");
+    }
+    calls.create(HOLDS, 0x102, applications(&[9]), 0xFFFF_FFFE);
+    calls.initialization(&area);
+    for ta_id in (1..=8).chain(10..=13) {
+        calls.local_change(ta_id, true, ROOM);
+        calls.local_change(ta_id, false, ROOM);
+    }
+    // nothing common is left: a mismatch, and nothing written
+    calls.local_change(9, false, ROOM);
+}
+
+/// What TAC and SAC lists come to.
+fn lists(calls: &mut Calls) {
+    // of equal elements the first; unknown ones; E with the reserved bits set
+    calls.enabling(&[4, 7]);
+    calls.initialization("850F0011 00 00000000 00047FFF 000E8000 01078000");
+    calls.capability("850F0011 80 00070000 00078000 00048000 00047FFF");
+    // S = 1 without elements changes nothing; S = 0 ends negotiation
+    calls.capability("850F0001 FF");
+    calls.capability("850F0005 7F 00048000");
+    // S = 1 then starts from the empty list
+    calls.capability("850F0005 80 0007FFFF");
+    calls.capability("850F0005 80 00047FFF");
+    calls.capability("850F0005 80 00077FFF");
+    // SAC in an Initialization disables and never enables; unknown Apps; S as an element would be
+    calls.enabling(&[4]);
+    calls.initialization("850D0009 A0 90 10 2F BF 40 80 D0 F0");
+    calls.permitted_kinds();
+    // in a Capability message the later one holds
+    calls.capability("850D0007 00 C0 10 20 A0 30 40");
+    calls.permitted_kinds();
+    // common, and nothing opened
+    calls.enabling(&[9]);
+    calls.initialization("850F0005 00 00090000");
+    // Dynamic has no effect any more; 9 though a mismatch follows
+    calls.capability("85060001 80");
+    calls.local_change(9, false, ROOM);
+}
+
+/// What reading finds, and what it refuses first.
+fn readings(calls: &mut Calls) {
+    for area in [
+        "",
+        "850F0001 80",
+        "86000000 850D0002 80 90",
+        "85060001 80",
+        // the three of ours between others, U and F of all sorts
+        "05000000 05FF0001 AA C6000000 86000000 450D0003 00 90 A0 050F0001 00 C5060001 7F",
+        // 2: octets remain, or the value runs past the area
+        "85",
+        "85060001 80 8506",
+        "850600",
+        "850F0005 80 000480",
+        "06000001",
+        // 3
+        "850F0000",
+        "850F0003 80 0004",
+        "850D0000",
+        "850D0001 80",
+        "85060000",
+        "85060002 80 80",
+        // 4
+        "04FF0000",
+        "46000000",
+        "06000000 850F0000",
+        // 5, before 3
+        "850F0001 80 850F0001 80",
+        "850F0001 80 850F0000",
+        "850D0002 80 90 850D0001 80",
+        "85060001 80 85060000",
+        // 3, 5 and 4 from the left
+        "850F0000 850F0001 80 06000000",
+    ] {
+        calls.read(area);
+    }
+    // 1, before 2: one octet more than an area may have
+    calls.enabling(&[4]);
+    calls.initialization(&"FF".repeat(4097));
+}
+
+/// Numbers and sets out of range, and what a local change asks for.
+fn numbers(calls: &mut Calls) {
+    calls.enabling(&[4]);
+    for (protected, enabled) in [
+        (0x400, 0),
+        (0x1_0000, 0),
+        (0, 0x2000),
+        (0, 0x1_0000),
+        (0x8000_0000, 0x8000_0000),
+        (0x3FF, 0x1FFF),
+    ] {
+        calls.create(0xFF, protected, enabled, 0xFFFF_FFFF);
+    }
+    calls.initialization("");
+    for kind in [0, 9, 10, 0x1_0000, 0xFFFF_FFFF] {
+        calls.permitted(kind);
+    }
+    for ta_id in [0, 14, 0x1_0004, 0xFFFF_FFFF] {
+        calls.local_change(ta_id, true, 0);
+    }
+    // 0 is a number as any other, and recorded or not is told apart
+    for number in [0, 0, 0xFFFF_FFFF, 0] {
+        calls.hello(number);
+    }
+    // Unchanged before 9, 9 before 8
+    calls.local_change(13, true, 0);
+    calls.local_change(13, false, 0);
+    // 8 though a mismatch follows; the room beyond the message stays
+    calls.enabling(&[4]);
+    calls.initialization("85060001 80 850F0005 80 00048000");
+    calls.local_change(4, false, 16);
+    calls.local_change(1, true, 0);
+    calls.local_change(1, true, 40);
+    // a room of 40 octets at the most
+    calls.local_change(1, false, 0xFF);
+}
+
+/// Records that break one rule each, and sound ones beside them.
+fn records(calls: &mut Calls) {
+    for record in [
+        // length, kind, state, the zero octet, spare bits
+        "1500 0100 00 07 4800 0000 0000 00 00 00000000 01000000",
+        "1400 0101 00 07 4800 0000 0000 00 00 00000000 01000000",
+        "1400 0100 04 07 4800 0000 0000 00 00 00000000 01000000",
+        "1400 0100 00 07 4800 0000 0000 00 01 00000000 01000000",
+        "1400 0100 00 87 4800 0000 0000 00 00 00000000 01000000",
+        "1400 0100 00 07 4820 0000 0000 00 00 00000000 01000000",
+        "1400 0100 01 17 4800 4820 0000 00 00 00000000 01000000",
+        "1400 0100 00 07 4800 0000 0004 00 00 00000000 01000000",
+        "1400 0100 01 07 4800 0000 0000 10 00 00000000 01000000",
+        // in force: in Ready, without TAC, with nothing common
+        "1400 0100 00 17 4800 4800 0000 00 00 00000000 01000000",
+        "1400 0100 01 13 4800 4800 0000 00 00 00000000 01000000",
+        "1400 0100 01 17 4800 0100 0000 00 00 00000000 01000000",
+        // listed and not in force; disabled and dynamic in Ready; a Hello number and none recorded
+        "1400 0100 01 07 4800 4800 0000 00 00 00000000 01000000",
+        "1400 0100 00 07 4800 0000 0000 01 00 00000000 01000000",
+        "1400 0100 00 27 4800 0000 0000 00 00 00000000 01000000",
+        "1400 0100 00 07 4800 0000 0000 00 00 00000001 01000000",
+        // Held: passive, or set to drop; Gone: not so set, passive, responding, with a Hello recorded
+        "1400 0100 02 05 4800 0000 0000 00 00 00000000 01000000",
+        "1400 0100 02 0F 4800 0000 0000 00 00 00000000 01000000",
+        "1400 0100 03 07 4800 0000 0000 00 00 00000000 01000000",
+        "1400 0100 03 0D 4800 0000 0000 00 00 00000000 01000000",
+        "1400 0100 03 0E 4800 0000 0000 00 00 00000000 01000000",
+        "1400 0100 03 4F 4800 0000 0000 00 00 00000000 01000000",
+    ] {
+        calls.record(record);
+        calls.sound();
+    }
+    // refused by everything, and made anew
+    calls.initialization("85");
+    calls.capability("85");
+    calls.local_change(14, true, 0);
+    calls.mismatch();
+    calls.hello(1);
+    calls.closed();
+    calls.permitted(10);
+    calls.permitted_kinds();
+    calls.retry_interval();
+    calls.create(HOLDS, 0, 0x2000, 0);
+    calls.create(HOLDS | DROPS, 0, 0, 0);
+    for record in [
+        "1400 0100 00 47 4800 0000 FF03 00 00 00000000 FFFFFFFF",
+        "1400 0100 01 37 FF1F FF1F FF03 0F 00 00000000 01000000",
+        "1400 0100 02 4E 4800 0000 0000 00 00 FFFFFFFF 01000000",
+        "1400 0100 03 0B 4800 0000 0000 00 00 00000000 01000000",
+    ] {
+        calls.record(record);
+        calls.sound();
+        calls.permitted_kinds();
+        calls.retry_interval();
+    }
+    // Held stays after the first Hello and after Unchanged
+    calls.record("1400 0100 02 07 4800 0000 0000 00 00 00000000 01000000");
+    calls.hello(5);
+    calls.local_change(4, true, 0);
+}
+
+fn all() -> Vec<u8> {
+    let mut calls = Calls(Vec::new());
+    examples(&mut calls);
+    stored(&mut calls);
+    for roles in 0..16 {
+        life(&mut calls, roles);
+    }
+    applications_opened(&mut calls);
+    lists(&mut calls);
+    readings(&mut calls);
+    numbers(&mut calls);
+    records(&mut calls);
+    calls.0
+}
+
+fn main() -> io::Result<()> {
+    io::stdout().write_all(&all())
+}
+
+#[cfg(test)]
+mod tests {
+    use super::*;
+
+    #[test]
+    fn the_stored_calls_are_these() {
+        let stored = concat!(env!("CARGO_MANIFEST_DIR"), "/../../crates/cases/stdin");
+        assert!(
+            all() == std::fs::read(stored).unwrap(),
+            "stdin is not what is made"
+        );
+    }
+}

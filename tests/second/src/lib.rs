@@ -1,0 +1,277 @@
+//! Negotiation of targeted LDP applications (RFC 8223) together with state
+//! advertisement control (RFC 7473), for one session held in a stored record.
+//!
+//! Every public function works on plain octets and numbers and can be called
+//! with any of them. A session travels as its 22-octet record; inside, it is
+//! the decoded [`session::Session`].
+//!
+//! | file         | idea                                                   |
+//! |--------------|--------------------------------------------------------|
+//! | `area.rs`    | the TLVs of a parameter area                           |
+//! | `lists.rs`   | the elements of TAC and SAC, and sets of applications  |
+//! | `kinds.rs`   | label kinds and who opens or controls them             |
+//! | `session.rs` | a session and what can be asked of it                  |
+//! | `events.rs`  | what happens to a session                              |
+//! | `record.rs`  | the stored form and when it is sound                   |
+//! | `message.rs` | the message written for a local change                 |
+
+#![forbid(unsafe_code)]
+
+mod area;
+mod events;
+mod kinds;
+mod lists;
+mod message;
+mod record;
+mod session;
+
+use events::{Effect, Outcome};
+use kinds::{Kind, KindSet};
+use lists::ApplicationSet;
+use session::{Session, Settings};
+
+/// Octets in a stored record.
+pub const RECORD_LENGTH: usize = record::LENGTH;
+
+/// Octets in the message that a local change writes.
+pub const MESSAGE_LENGTH: usize = message::LENGTH;
+
+/// Most octets that a parameter area may have.
+pub const LARGEST_AREA: usize = area::LARGEST;
+
+/// Where a value lies in the area that was read. Absent means 0, 0.
+#[derive(Clone, Copy, Debug, Default, PartialEq, Eq)]
+pub struct Part {
+    pub start: u16,
+    pub length: u16,
+}
+
+/// What a parameter area holds. After a refusal everything else is 0.
+#[derive(Clone, Copy, Debug, Default, PartialEq, Eq)]
+pub struct Reading {
+    pub refusal: u8,
+    pub dynamic: u8,
+    pub tac: Part,
+    pub sac: Part,
+}
+
+/// What an event did. After a refusal everything else is 0.
+#[derive(Clone, Copy, Debug, Default, PartialEq, Eq)]
+pub struct Answer {
+    pub refusal: u8,
+    pub outcome: u8,
+    pub lost: u16,
+    pub gained: u16,
+    pub written: u16,
+}
+
+/// Whether one kind may be sent.
+#[derive(Clone, Copy, Debug, Default, PartialEq, Eq)]
+pub struct Permission {
+    pub refusal: u8,
+    pub permitted: u8,
+}
+
+/// All the kinds that may be sent, kind k at bit k.
+#[derive(Clone, Copy, Debug, Default, PartialEq, Eq)]
+pub struct Kinds {
+    pub refusal: u8,
+    pub kinds: u16,
+}
+
+/// How long to wait before the next attempt at a session.
+#[derive(Clone, Copy, Debug, Default, PartialEq, Eq)]
+pub struct Retry {
+    pub refusal: u8,
+    pub interval: u16,
+}
+
+/// Why a call was turned down, with its number.
+#[derive(Clone, Copy, Debug, PartialEq, Eq)]
+pub(crate) enum Refusal {
+    AreaTooLong = 1,
+    CutShort = 2,
+    BadLength = 3,
+    UnknownType = 4,
+    Repeated = 5,
+    OutOfRange = 6,
+    WrongState = 7,
+    NoRoom = 8,
+    PeerNotDynamic = 9,
+    NotSound = 10,
+}
+
+impl Refusal {
+    fn number(self) -> u8 {
+        self as u8
+    }
+}
+
+/// Reads the optional parameters of an Initialization or Capability message.
+pub fn read(area: &[u8]) -> Reading {
+    match area::parse(area) {
+        Ok(found) => Reading {
+            refusal: 0,
+            dynamic: u8::from(found.dynamic.is_some()),
+            tac: found.tac.unwrap_or_default(),
+            sac: found.sac.unwrap_or_default(),
+        },
+        Err(refusal) => Reading {
+            refusal: refusal.number(),
+            ..Reading::default()
+        },
+    }
+}
+
+/// Stores a fresh session in `record`; answers the refusal number, 0 for none.
+///
+/// `protected_kinds` has kind k at bit k, `enabled` has TA-Id n at bit n-1.
+#[allow(clippy::too_many_arguments)]
+pub fn create(
+    record: &mut [u8],
+    initiating: bool,
+    active: bool,
+    uses_tac: bool,
+    drops: bool,
+    protected_kinds: u32,
+    enabled: u32,
+    first_number: u32,
+) -> u8 {
+    let Ok(record) = <&mut [u8; RECORD_LENGTH]>::try_from(record) else {
+        return Refusal::NotSound.number();
+    };
+    let (Some(protected), Some(enabled)) = (
+        KindSet::from_bits(protected_kinds),
+        ApplicationSet::from_bits(enabled),
+    ) else {
+        return Refusal::OutOfRange.number();
+    };
+    let settings = Settings {
+        initiating,
+        active,
+        uses_tac,
+        drops,
+        protected,
+    };
+    *record = record::encode(&Session::new(settings, enabled, first_number));
+    0
+}
+
+/// An Initialization message arrived with these optional parameters.
+pub fn initialization(record: &mut [u8], area: &[u8]) -> Answer {
+    happen(record, |session| session.initialization(area))
+}
+
+/// A Capability message arrived with these parameters.
+pub fn capability(record: &mut [u8], area: &[u8]) -> Answer {
+    happen(record, |session| session.capability(area))
+}
+
+/// One application is switched on or off here; a message may go into `room`.
+pub fn local_change(record: &mut [u8], ta_id: u32, on: bool, room: &mut [u8]) -> Answer {
+    happen(record, |session| session.local_change(ta_id, on, room))
+}
+
+/// The peer told us of a mismatch.
+pub fn mismatch(record: &mut [u8]) -> Answer {
+    happen(record, Session::mismatch_notified)
+}
+
+/// A Hello arrived with this configuration sequence number.
+pub fn hello(record: &mut [u8], number: u32) -> Answer {
+    happen(record, |session| session.hello(number))
+}
+
+/// The connection closed.
+pub fn closed(record: &mut [u8]) -> Answer {
+    happen(record, Session::closed)
+}
+
+/// May labels of this kind be sent?
+pub fn permitted(record: &[u8], kind: u32) -> Permission {
+    let answer = record::decode(record).and_then(|session| {
+        let kind = Kind::from_number(kind).ok_or(Refusal::OutOfRange)?;
+        Ok(session.permitted().contains(kind))
+    });
+    match answer {
+        Ok(permitted) => Permission {
+            refusal: 0,
+            permitted: u8::from(permitted),
+        },
+        Err(refusal) => Permission {
+            refusal: refusal.number(),
+            permitted: 0,
+        },
+    }
+}
+
+/// Which kinds of label may be sent?
+pub fn permitted_kinds(record: &[u8]) -> Kinds {
+    match record::decode(record) {
+        Ok(session) => Kinds {
+            refusal: 0,
+            kinds: session.permitted().bits(),
+        },
+        Err(refusal) => Kinds {
+            refusal: refusal.number(),
+            kinds: 0,
+        },
+    }
+}
+
+/// How long must the next attempt wait?
+pub fn retry_interval(record: &[u8]) -> Retry {
+    match record::decode(record) {
+        Ok(session) => Retry {
+            refusal: 0,
+            interval: session.retry_interval(),
+        },
+        Err(refusal) => Retry {
+            refusal: refusal.number(),
+            interval: 0,
+        },
+    }
+}
+
+/// Is this a record that a session can have?
+pub fn sound(record: &[u8]) -> bool {
+    record::decode(record).is_ok()
+}
+
+/// Takes the session out of its record, lets the event happen, and stores the
+/// session again unless the event was refused.
+fn happen(
+    record: &mut [u8],
+    event: impl FnOnce(&mut Session) -> Result<Effect, Refusal>,
+) -> Answer {
+    let result = record::decode(record).and_then(|mut session| {
+        let before = session.permitted();
+        let effect = event(&mut session)?;
+        Ok((session, before, effect))
+    });
+    match result {
+        Ok((session, before, effect)) => {
+            let after = session.permitted();
+            record.copy_from_slice(&record::encode(&session));
+            Answer {
+                refusal: 0,
+                outcome: outcome_number(effect.outcome),
+                lost: before.without(after).bits(),
+                gained: after.without(before).bits(),
+                written: effect.written,
+            }
+        }
+        Err(refusal) => Answer {
+            refusal: refusal.number(),
+            ..Answer::default()
+        },
+    }
+}
+
+fn outcome_number(outcome: Outcome) -> u8 {
+    match outcome {
+        Outcome::Done => 0,
+        Outcome::Unchanged => 1,
+        Outcome::Mismatch => 2,
+    }
+}

@@ -1,0 +1,86 @@
+//! A targeted session and what can be asked of it.
+
+use crate::kinds::KindSet;
+use crate::lists::{ApplicationSet, ControlSet};
+
+#[derive(Clone, Copy, Debug, PartialEq, Eq)]
+pub(crate) enum State {
+    /// Waiting for an Initialization.
+    Ready,
+    /// Labels may flow.
+    Open,
+    /// After a mismatch, waiting for a change at either end.
+    Held,
+    /// After a mismatch, the adjacency is torn down.
+    Gone,
+}
+
+/// What is settled once and for all at creation.
+#[derive(Clone, Copy, Debug, PartialEq, Eq)]
+pub(crate) struct Settings {
+    pub initiating: bool,
+    pub active: bool,
+    pub uses_tac: bool,
+    pub drops: bool,
+    pub protected: KindSet,
+}
+
+/// What the peer told us since the session opened.
+#[derive(Clone, Copy, Debug, Default, PartialEq, Eq)]
+pub(crate) struct Peer {
+    /// The applications that the peer lists, while negotiation is in force.
+    pub listed: Option<ApplicationSet>,
+    pub disabled: ControlSet,
+    pub dynamic: bool,
+}
+
+#[derive(Clone, Copy, Debug, PartialEq, Eq)]
+pub(crate) struct Session {
+    pub settings: Settings,
+    pub enabled: ApplicationSet,
+    pub state: State,
+    pub peer: Peer,
+    pub hello: Option<u32>,
+    pub next_number: u32,
+}
+
+impl Session {
+    pub fn new(settings: Settings, enabled: ApplicationSet, next_number: u32) -> Session {
+        Session {
+            settings,
+            enabled,
+            state: State::Ready,
+            peer: Peer::default(),
+            hello: None,
+            next_number,
+        }
+    }
+
+    /// The kinds of label that may be sent now.
+    pub fn permitted(&self) -> KindSet {
+        if self.state != State::Open {
+            return KindSet::NONE;
+        }
+        let open = match self.peer.listed {
+            Some(listed) => self.enabled.common(listed).opens(self.settings.protected),
+            None => KindSet::ALL,
+        };
+        open.without(self.peer.disabled.closes())
+    }
+
+    /// Do the two lists leave anything to talk about? Without negotiation in
+    /// force there is nothing to disagree on.
+    pub fn agrees(&self) -> bool {
+        match self.peer.listed {
+            Some(listed) => !self.enabled.common(listed).is_empty(),
+            None => true,
+        }
+    }
+
+    pub fn retry_interval(&self) -> u16 {
+        match self.state {
+            State::Held => u16::MAX,
+            State::Ready | State::Open | State::Gone => 0,
+        }
+    }
+}

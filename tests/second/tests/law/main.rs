@@ -1,0 +1,194 @@
+//! The rules, through the public functions only.
+
+mod proved;
+mod refusals;
+mod rfc;
+mod states;
+mod stored;
+mod widening;
+
+use second::*;
+
+/// Octets from hexadecimal; blanks do not matter.
+pub fn hex(text: &str) -> Vec<u8> {
+    let digits: Vec<u8> = text
+        .chars()
+        .filter(|digit| !digit.is_whitespace())
+        .map(|digit| digit.to_digit(16).expect("a hexadecimal digit") as u8)
+        .collect();
+    digits
+        .chunks(2)
+        .map(|pair| pair[0] << 4 | pair[1])
+        .collect()
+}
+
+/// The set of these applications, TA-Id n at bit n-1.
+pub fn applications(ta_ids: &[u32]) -> u32 {
+    ta_ids.iter().map(|ta_id| 1 << (ta_id - 1)).sum()
+}
+
+/// The set of these kinds, kind k at bit k.
+pub fn kinds(kinds: &[u16]) -> u16 {
+    kinds.iter().map(|kind| 1 << kind).sum()
+}
+
+pub const ALL_KINDS: u16 = 0x3FF;
+
+pub const READY: u8 = 0;
+pub const OPEN: u8 = 1;
+pub const HELD: u8 = 2;
+pub const GONE: u8 = 3;
+
+/// A session in its record, with shorter names for what the tests do to it.
+#[derive(Clone, Copy, Debug, PartialEq, Eq)]
+pub struct Box22(pub [u8; RECORD_LENGTH]);
+
+/// What creation settles.
+#[derive(Clone, Copy)]
+pub struct Made {
+    pub initiating: bool,
+    pub active: bool,
+    pub uses_tac: bool,
+    pub drops: bool,
+    pub protected: u32,
+    pub enabled: u32,
+    pub number: u32,
+}
+
+impl Default for Made {
+    fn default() -> Made {
+        Made {
+            initiating: true,
+            active: true,
+            uses_tac: true,
+            drops: false,
+            protected: 0,
+            enabled: 0,
+            number: 0,
+        }
+    }
+}
+
+impl Made {
+    pub fn enabling(ta_ids: &[u32]) -> Made {
+        Made {
+            enabled: applications(ta_ids),
+            ..Made::default()
+        }
+    }
+
+    pub fn make(self) -> Box22 {
+        let mut record = [0xA5; RECORD_LENGTH];
+        let refusal = create(
+            &mut record,
+            self.initiating,
+            self.active,
+            self.uses_tac,
+            self.drops,
+            self.protected,
+            self.enabled,
+            self.number,
+        );
+        assert_eq!(refusal, 0);
+        Box22(record)
+    }
+}
+
+impl Box22 {
+    pub fn init(&mut self, area: &str) -> Answer {
+        initialization(&mut self.0, &hex(area))
+    }
+
+    pub fn cap(&mut self, area: &str) -> Answer {
+        capability(&mut self.0, &hex(area))
+    }
+
+    /// A local change with room to spare; the message, if any.
+    pub fn change(&mut self, ta_id: u32, on: bool) -> (Answer, Vec<u8>) {
+        let mut room = [0xEE; 24];
+        let answer = local_change(&mut self.0, ta_id, on, &mut room);
+        let written = usize::from(answer.written);
+        assert!(room[written..].iter().all(|&octet| octet == 0xEE));
+        (answer, room[..written].to_vec())
+    }
+
+    pub fn state(&self) -> u8 {
+        assert!(sound(&self.0), "{:02X?}", self.0);
+        self.0[4]
+    }
+
+    pub fn flag(&self, bit: u8) -> bool {
+        self.0[5] >> bit & 1 == 1
+    }
+
+    pub fn in_force(&self) -> bool {
+        self.flag(4)
+    }
+
+    pub fn dynamic(&self) -> bool {
+        self.flag(5)
+    }
+
+    pub fn enabled(&self) -> u16 {
+        u16::from_le_bytes([self.0[6], self.0[7]])
+    }
+
+    pub fn listed(&self) -> u16 {
+        u16::from_le_bytes([self.0[8], self.0[9]])
+    }
+
+    pub fn disabled(&self) -> u8 {
+        self.0[12]
+    }
+
+    pub fn heard(&self) -> Option<u32> {
+        let number = u32::from_le_bytes(self.0[14..18].try_into().unwrap());
+        self.flag(6).then_some(number)
+    }
+
+    pub fn number(&self) -> u32 {
+        u32::from_le_bytes(self.0[18..22].try_into().unwrap())
+    }
+
+    /// The permitted kinds, asked one by one and all at once.
+    pub fn permitted(&self) -> u16 {
+        let all = permitted_kinds(&self.0);
+        assert_eq!(all.refusal, 0);
+        for kind in 0..10 {
+            let one = permitted(&self.0, kind);
+            assert_eq!(one.refusal, 0);
+            assert_eq!(u16::from(one.permitted), all.kinds >> kind & 1);
+        }
+        all.kinds
+    }
+}
+
+pub fn done(lost: u16, gained: u16) -> Answer {
+    Answer {
+        lost,
+        gained,
+        ..Answer::default()
+    }
+}
+
+pub fn unchanged() -> Answer {
+    Answer {
+        outcome: 1,
+        ..Answer::default()
+    }
+}
+
+pub fn mismatched(lost: u16) -> Answer {
+    Answer {
+        outcome: 2,
+        lost,
+        ..Answer::default()
+    }
+}
+
+pub fn refused(refusal: u8) -> Answer {
+    Answer {
+        refusal,
+        ..Answer::default()
+    }
+}

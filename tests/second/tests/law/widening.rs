@@ -1,0 +1,125 @@
+//! Enabling more applications never costs a kind: two sessions alike but for
+//! that are opened by one Initialization and led through the same events.
+
+use crate::*;
+
+/// Numbers that look random and always are the same.
+struct Numbers(u64);
+
+impl Numbers {
+    fn next(&mut self) -> u64 {
+        self.0 = self.0.wrapping_add(0x9E37_79B9_7F4A_7C15);
+        let mut mixed = self.0;
+        mixed = (mixed ^ (mixed >> 30)).wrapping_mul(0xBF58_476D_1CE4_E5B9);
+        mixed = (mixed ^ (mixed >> 27)).wrapping_mul(0x94D0_49BB_1331_11EB);
+        mixed ^ (mixed >> 31)
+    }
+
+    fn below(&mut self, limit: u64) -> u64 {
+        self.next() % limit
+    }
+
+    fn chance(&mut self, of_ten: u64) -> bool {
+        self.below(10) < of_ten
+    }
+
+    fn area(&mut self) -> Vec<u8> {
+        let mut area = Vec::new();
+        if self.chance(8) {
+            let elements = self.below(9) as usize;
+            area.extend([0x85, 0x0F, 0, 1 + 4 * elements as u8]);
+            area.push(if self.chance(9) { 0x80 } else { 0 });
+            for _ in 0..elements {
+                let e = if self.chance(7) { 0x80 } else { 0 };
+                area.extend([0, self.below(15) as u8, e, 0]);
+            }
+        }
+        if self.chance(5) {
+            area.extend([0x85, 0x0D, 0, 3, 0x80]);
+            area.extend([self.next() as u8, self.next() as u8]);
+        }
+        if self.chance(8) {
+            area.extend([0x85, 0x06, 0, 1, 0x80]);
+        }
+        area
+    }
+}
+
+/// The kinds that these applications open, written down once more.
+fn opened_by(set: u16, protected: u16) -> u16 {
+    let rows = [
+        0x001, 0x002, 0x07C, 0x001, 0x002, 0x080, 0x100, protected, 0, 0x200, 0x07C, 0x001, 0x002,
+    ];
+    (0..13)
+        .filter(|bit| set >> bit & 1 == 1)
+        .fold(0, |kinds, bit| kinds | rows[bit])
+}
+
+fn compare(first: &Box22, second: &Box22) {
+    assert_eq!(second.state(), OPEN);
+    let (small, large) = (first.permitted(), second.permitted());
+    assert_eq!(small & !large, 0);
+    let protected = u16::from_le_bytes([first.0[10], first.0[11]]);
+    let disabled = [0x001, 0x002, 0x080, 0x100]
+        .into_iter()
+        .enumerate()
+        .filter(|(bit, _)| first.disabled() >> bit & 1 == 1)
+        .fold(0, |kinds, (_, kind)| kinds | kind);
+    let listed = first.listed();
+    let further = if first.in_force() {
+        opened_by(second.enabled() & !first.enabled() & listed, protected)
+            & !opened_by(first.enabled() & listed, protected)
+            & !disabled
+    } else {
+        0
+    };
+    assert_eq!(large & !small, further);
+}
+
+#[test]
+fn more_applications_never_cost_a_kind() {
+    let mut numbers = Numbers(1);
+    let mut compared = 0;
+    for _ in 0..4000 {
+        let made = Made {
+            initiating: numbers.chance(5),
+            active: numbers.chance(5),
+            uses_tac: numbers.chance(8),
+            drops: numbers.chance(5),
+            protected: numbers.below(0x400) as u32,
+            enabled: (numbers.next() & numbers.next() & 0x1FFF) as u32,
+            number: numbers.next() as u32,
+        };
+        let mut first = made.make();
+        let mut second = Made {
+            enabled: made.enabled | (numbers.next() & 0x1FFF) as u32,
+            ..made
+        }
+        .make();
+        let area = numbers.area();
+        initialization(&mut first.0, &area);
+        initialization(&mut second.0, &area);
+        for _ in 0..20 {
+            if first.state() != OPEN {
+                break;
+            }
+            compare(&first, &second);
+            compared += 1;
+            if numbers.chance(5) {
+                let area = numbers.area();
+                capability(&mut first.0, &area);
+                capability(&mut second.0, &area);
+            } else if numbers.chance(8) {
+                let (ta_id, on) = (numbers.below(16) as u32, numbers.chance(5));
+                let length = if numbers.chance(8) { 17 } else { 16 };
+                local_change(&mut first.0, ta_id, on, &mut vec![0; length]);
+                local_change(&mut second.0, ta_id, on, &mut vec![0; length]);
+            } else {
+                let number = numbers.below(9) as u32;
+                hello(&mut first.0, number);
+                hello(&mut second.0, number);
+            }
+        }
+    }
+    assert!(compared > 10_000, "{compared}");
+}
