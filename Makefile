@@ -23,11 +23,14 @@ help:
 	@echo "make            prove the library and build it: build/libtacit.a, tacit.h, tacit.pc"
 	@echo "make install    put these below PREFIX ($(PREFIX)), below DESTDIR if it is set"
 	@echo "make demo       run examples/friday.c, the incident replayed in words"
-	@echo "make test       the gate: prove every crate from nothing and run every program"
+	@echo "make test       the gate: c-test, second and compare, then every crate proved from nothing"
 	@echo "make c-test     check the library through C: tests, sanitizers, header, demo"
 	@echo "make compare    the library against the second implementation; CALLS=$(CALLS) SEED=$(SEED)"
 	@echo "make mutants    break the second implementation rule by rule; each must be noticed"
 	@echo "make second     the second implementation's own tests"
+	@echo "make fuzz       the two on inputs that a fuzzer makes; SECONDS=60"
+	@echo "make outside    what the library writes read by Wireshark, what FRR sends read by the library"
+	@echo "make bench      instructions of each call, into docs/BENCHMARK.md"
 	@echo "make clean      remove build/"
 	@echo "TACIT_LIB_DIR   where libtacit.a is, to check another one (build)"
 
@@ -89,3 +92,5 @@ second:
 
 clean:
 	rm -rf build
+
+-include tests/tests.mk

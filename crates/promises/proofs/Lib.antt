@@ -3,3 +3,4 @@ pub mod Runs
 pub mod Alike
 pub mod Condition3
 pub mod Written
+pub mod Records

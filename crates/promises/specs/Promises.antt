@@ -3,6 +3,7 @@ use Rattle.record.specs.Record.{ReadBack, StoredBack}
 use Rattle.promises.specs.Run.{SoundOverRuns, RefusedIsNothing, RoomStays, RefusedCanGo}
 use Rattle.promises.specs.Condition3.{Condition3}
 use Rattle.promises.specs.Written.{ReadAsMeant}
+use Rattle.promises.specs.Records.{RecordsFollow}
 use Rattle.promises.specs.Examples.{Examples, WhyItStops, WhyAtThatMoment}
 
 pub record Promises : Type 0 where
@@ -12,6 +13,7 @@ pub record Promises : Type 0 where
   pub refused-can-go : RefusedCanGo
   pub read-back : ReadBack
   pub stored-back : StoredBack
+  pub records-follow : RecordsFollow
   pub read-as-meant : ReadAsMeant
   pub condition-3 : Condition3
   pub examples : Examples

@@ -41,7 +41,7 @@ list-is [] = refl
 list-is (x ∷ l) = ap (λ (m : List ℕ). x ∷ m) (list-is l)
 
 -- what is read as no session is not sound
-never-sound : sound noSession ≡ true → ⊥
+pub never-sound : sound noSession ≡ true → ⊥
 unfolding sound spareZero
 never-sound h = false≢true h
 

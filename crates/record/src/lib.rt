@@ -2,7 +2,10 @@
 ghost use mathlib.Core.Path.{_≡_};
 ghost use Prim.Native.Nat.{_<_};
 ghost use lib.ListN.{length};
+ghost use Rattle.record.specs.Carried.{Carried};
 ghost use Rattle.record.specs.Record.{encoded, stored, headed, fields, noSession, decoded};
+use session::After;
+use session::Answer;
 use session::Session;
 
 // How many octets a record has.
@@ -109,4 +112,17 @@ pub fn decode(kept: &[u8]) -> Session
         return no_session();
     }
     no_session()
+}
+
+// Stores the session after an event, unless it was refused, and answers.
+pub fn carry(kept: &mut [u8], after: After) -> Answer
+    ensures { λ r. ⌜ Carried after (now (kept .entry)) r (now (kept .exit)) ⌝ }
+{
+    let answer = after.answer;
+    let session = after.session;
+    if answer.refusal == 0 {
+        encode(session, kept);
+        return answer;
+    }
+    answer
 }

@@ -1,12 +1,8 @@
 -- Any two outcomes that the promise of a C call allows are equal: the answer, and every octet of every buffer that it was lent. Assumes nothing.
 use mathlib.Core.Path.{_≡_, sym, _∙_}
-use mathlib.Core.List.{List}
-use Prim.Native.Nat.{ℕ}
 use Rattle.choice.specs.Determined.{Determined}
 use Rattle.choice.proofs.Determined.{by-equation}
-use Rattle.session.specs.declared.Answer.{Answer}
-use Rattle.session.specs.declared.After.{After}
-use Rattle.tacit.specs.Boundary.{Carried}
+use Rattle.record.proofs.Determined.{carried-same}
 use Rattle.tacit.proofs.tacit_read.Reads as read
 use Rattle.tacit.proofs.tacit_create.Reads as create
 use Rattle.tacit.proofs.tacit_initialization.Reads as initialization
@@ -37,9 +33,6 @@ pub sound-determined : (κs : _) → Determined (sound.Post κs)
 sound-determined κs = by-equation _
 
 -- ---- the events: one law for all that an event carries to a record
-carried-same : (after : After) (l : List ℕ) (r r′ : Answer) (k k′ : List ℕ) → Carried after l r k → Carried after l r′ k′ → (r ≡ r′) × (k ≡ k′)
-carried-same after l r r′ k k′ p q = (p .answer ∙ sym (q .answer), p .octets ∙ sym (q .octets))
-
 pub initialization-determined : (κs : _) (a r r′ s s′ : _) → initialization.Post κs a r s → initialization.Post κs a r′ s′
     → (r ≡ r′) × (s .0 .now ≡ s′ .0 .now)
 initialization-determined κs a r r′ s s′ = carried-same _ _ r r′ _ _

@@ -8,10 +8,10 @@ ghost use Rattle.session.specs.Creation.{roleFlags, created};
 ghost use Rattle.session.specs.Events.{initialization, capability, localChange, roomAfter, mismatch, hello, closed};
 ghost use Rattle.session.specs.Questions.{permittedKinds, permission, retryInterval};
 ghost use Rattle.record.specs.Record.{decoded};
-ghost use Rattle.tacit.specs.Boundary.{Carried, CreatedIn};
+ghost use Rattle.record.specs.Carried.{Carried};
+ghost use Rattle.tacit.specs.Creation.{CreatedIn};
 use area::Reading;
 use kinds::TaId;
-use session::After;
 use session::Answer;
 use session::Created;
 use session::Kinds;
@@ -19,25 +19,12 @@ use session::Permission;
 use session::Retry;
 use session::Session;
 
-// Stores the session after an event, unless it was refused, and answers.
-fn carried(kept: &mut [u8], after: After) -> Answer
-    ensures { λ r. ⌜ Carried after (now (kept .entry)) r (now (kept .exit)) ⌝ }
-{
-    let answer = after.answer;
-    let session = after.session;
-    if answer.refusal == 0 {
-        record::encode(session, kept);
-        return answer;
-    }
-    answer
-}
-
 #[no_mangle]
 pub extern "C" fn tacit_initialization(kept: &mut [u8], area: &[u8]) -> Answer
     ensures { λ r. ⌜ Carried (initialization (decoded (now (kept .entry))) (now (area .entry))) (now (kept .entry)) r (now (kept .exit)) ⌝ }
 {
     let after = record::decode(kept).initialization(area);
-    carried(kept, after)
+    record::carry(kept, after)
 }
 
 #[no_mangle]
@@ -45,7 +32,7 @@ pub extern "C" fn tacit_capability(kept: &mut [u8], area: &[u8]) -> Answer
     ensures { λ r. ⌜ Carried (capability (decoded (now (kept .entry))) (now (area .entry))) (now (kept .entry)) r (now (kept .exit)) ⌝ }
 {
     let after = record::decode(kept).capability(area);
-    carried(kept, after)
+    record::carry(kept, after)
 }
 
 #[no_mangle]
@@ -59,7 +46,7 @@ pub extern "C" fn tacit_local_change(
     ensures { λ _. ⌜ now (room .exit) ≡ roomAfter (decoded (now (kept .entry))) «ta_id» on (now (room .entry)) ⌝ }
 {
     let after = record::decode(kept).local_change(TaId(ta_id), on, room);
-    carried(kept, after)
+    record::carry(kept, after)
 }
 
 #[no_mangle]
@@ -67,7 +54,7 @@ pub extern "C" fn tacit_mismatch(kept: &mut [u8]) -> Answer
     ensures { λ r. ⌜ Carried (mismatch (decoded (now (kept .entry)))) (now (kept .entry)) r (now (kept .exit)) ⌝ }
 {
     let after = record::decode(kept).mismatch();
-    carried(kept, after)
+    record::carry(kept, after)
 }
 
 #[no_mangle]
@@ -75,7 +62,7 @@ pub extern "C" fn tacit_hello(kept: &mut [u8], number: u32) -> Answer
     ensures { λ r. ⌜ Carried (hello (decoded (now (kept .entry))) number) (now (kept .entry)) r (now (kept .exit)) ⌝ }
 {
     let after = record::decode(kept).hello(number);
-    carried(kept, after)
+    record::carry(kept, after)
 }
 
 #[no_mangle]
@@ -83,7 +70,7 @@ pub extern "C" fn tacit_closed(kept: &mut [u8]) -> Answer
     ensures { λ r. ⌜ Carried (closed (decoded (now (kept .entry)))) (now (kept .entry)) r (now (kept .exit)) ⌝ }
 {
     let after = record::decode(kept).closed();
-    carried(kept, after)
+    record::carry(kept, after)
 }
 
 // Stores a fresh session in a room of 22 octets, or answers why not.

@@ -3,6 +3,7 @@ use Rattle.record.proofs.RoundTrip.{read-back, stored-back}
 use Rattle.promises.proofs.Runs.{sound-over-runs, refused-is-nothing, room-stays, refused-can-go}
 use Rattle.promises.proofs.Condition3.{condition-3}
 use Rattle.promises.proofs.Written.{read-as-meant}
+use Rattle.promises.proofs.Records.{records-follow}
 use Rattle.promises.proofs.Examples.{examples, why-it-stops, why-at-that-moment}
 use Rattle.promises.proofs.kept.Statement.{statement}
 use Rattle.promises.proofs.kept.Tie as tie
@@ -16,6 +17,7 @@ returns c =
       refused-can-go = refused-can-go;
       read-back = read-back;
       stored-back = stored-back;
+      records-follow = records-follow;
       read-as-meant = read-as-meant;
       condition-3 = condition-3;
       examples = examples;

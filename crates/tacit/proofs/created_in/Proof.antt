@@ -3,7 +3,7 @@ use mathlib.Core.Path.{refl, sym}
 use borrow.Author.Tests.{eq-eqb, ne-eqb}
 use Rattle.choice.proofs.Branch.{taken, left}
 use Rattle.record.specs.Record.{stored}
-use Rattle.tacit.specs.Boundary.{creationRefusal, createdIn}
+use Rattle.tacit.specs.Creation.{creationRefusal, createdIn}
 use borrow.Author.Needs.{needs}
 use Rattle.tacit.proofs.created_in.Statement.{statement}
 use Rattle.tacit.proofs.created_in.Tie as tie

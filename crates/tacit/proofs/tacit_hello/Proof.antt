@@ -9,15 +9,15 @@ decode-requires c κs = search needs
 hello-requires : tie.Need-hello-requires
 hello-requires c κs = search needs
 
-carried-requires : tie.Need-carried-requires
-carried-requires c κs = search needs
+carry-requires : tie.Need-carry-requires
+carry-requires c κs = search needs
 
 same-length : tie.Need-same-length
 same-length c = search needs
 
 returns : tie.Need-returns
-returns c = simp (c .before .before .before .before .hello .ensures, c .before .before .before .before .before .decode .ensures) at (c .before .before .carried .ensures)
+returns c = simp (c .before .before .before .before .hello .ensures, c .before .before .before .before .before .decode .ensures) at (c .before .before .carry .ensures)
 
 pub tacit-hello-spec : {M : Type 1} → statement M
 tacit-hello-spec =
-    tie.close (tie.spec decode-requires hello-requires carried-requires same-length returns)
+    tie.close (tie.spec decode-requires hello-requires carry-requires same-length returns)

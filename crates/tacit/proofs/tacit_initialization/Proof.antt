@@ -9,16 +9,16 @@ decode-requires c κs = search needs
 initialization-requires : tie.Need-initialization-requires
 initialization-requires c κs = search needs
 
-carried-requires : tie.Need-carried-requires
-carried-requires c κs = search needs
+carry-requires : tie.Need-carry-requires
+carry-requires c κs = search needs
 
 same-length : tie.Need-same-length
 same-length c = search needs
 
 returns : tie.Need-returns
-returns c = simp (c .before .before .before .before .initialization .ensures, c .before .before .before .before .before .decode .ensures) at (c .before .before .carried .ensures)
+returns c = simp (c .before .before .before .before .initialization .ensures, c .before .before .before .before .before .decode .ensures) at (c .before .before .carry .ensures)
 
 pub tacit-initialization-spec : {M : Type 1} → statement M
 tacit-initialization-spec =
     tie.close
-    (tie.spec decode-requires initialization-requires carried-requires same-length returns)
+    (tie.spec decode-requires initialization-requires carry-requires same-length returns)

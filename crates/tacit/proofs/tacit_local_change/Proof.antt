@@ -9,8 +9,8 @@ decode-requires c κs = search needs
 local-change-requires : tie.Need-local-change-requires
 local-change-requires c κs = search needs
 
-carried-requires : tie.Need-carried-requires
-carried-requires c κs = search needs
+carry-requires : tie.Need-carry-requires
+carry-requires c κs = search needs
 
 same-length : tie.Need-same-length
 same-length c = search needs
@@ -19,7 +19,7 @@ same-length-2 : tie.Need-same-length-2
 same-length-2 c = search needs
 
 returns : tie.Need-returns
-returns c = (simp (c .before .before .before .before .before .before .local-change .ensures .0, c .before .before .before .before .before .before .before .before .decode .ensures) at (c .before .before .carried .ensures), simp (c .before .before .before .before .before .before .before .before .decode .ensures) at (c .before .before .before .before .before .before .local-change .ensures .1))
+returns c = (simp (c .before .before .before .before .before .before .local-change .ensures .0, c .before .before .before .before .before .before .before .before .decode .ensures) at (c .before .before .carry .ensures), simp (c .before .before .before .before .before .before .before .before .decode .ensures) at (c .before .before .before .before .before .before .local-change .ensures .1))
 
 pub tacit-local-change-spec : {M : Type 1} → statement M
 tacit-local-change-spec =
@@ -27,7 +27,7 @@ tacit-local-change-spec =
     (tie.spec
     decode-requires
     local-change-requires
-    carried-requires
+    carry-requires
     same-length
     same-length-2
     returns)

@@ -9,15 +9,15 @@ decode-requires c κs = search needs
 mismatch-requires : tie.Need-mismatch-requires
 mismatch-requires c κs = search needs
 
-carried-requires : tie.Need-carried-requires
-carried-requires c κs = search needs
+carry-requires : tie.Need-carry-requires
+carry-requires c κs = search needs
 
 same-length : tie.Need-same-length
 same-length c = search needs
 
 returns : tie.Need-returns
-returns c = simp (c .before .before .before .before .mismatch .ensures, c .before .before .before .before .before .decode .ensures) at (c .before .before .carried .ensures)
+returns c = simp (c .before .before .before .before .mismatch .ensures, c .before .before .before .before .before .decode .ensures) at (c .before .before .carry .ensures)
 
 pub tacit-mismatch-spec : {M : Type 1} → statement M
 tacit-mismatch-spec =
-    tie.close (tie.spec decode-requires mismatch-requires carried-requires same-length returns)
+    tie.close (tie.spec decode-requires mismatch-requires carry-requires same-length returns)

@@ -1,11 +1,11 @@
--- `tacit::carried` meets its contract: a refusal stores nothing. Assumes nothing.
+-- `record::carry` meets its contract: a refusal stores nothing. Assumes nothing.
 use mathlib.Core.Path.{refl, sym, _∙_}
 use borrow.Author.Tests.{eq-eqb, ne-eqb}
 use Rattle.choice.proofs.Branch.{taken, left}
-use Rattle.tacit.specs.Boundary.{recordAfter}
+use Rattle.record.specs.Carried.{recordAfter}
 use borrow.Author.Needs.{needs}
-use Rattle.tacit.proofs.carried.Statement.{statement}
-use Rattle.tacit.proofs.carried.Tie as tie
+use Rattle.record.proofs.carry.Statement.{statement}
+use Rattle.record.proofs.carry.Tie as tie
 
 encode-requires : tie.Need-encode-requires
 encode-requires c κs = search needs
@@ -21,5 +21,5 @@ returns-2 : tie.Need-returns-2
 unfolding recordAfter
 returns-2 c = record { answer = refl; octets = sym (left _ _ (ne-eqb _ _ (c .if1 .left))) }
 
-pub carried-spec : {M : Type 1} → statement M
-carried-spec = tie.close (tie.spec encode-requires same-length returns returns-2)
+pub carry-spec : {M : Type 1} → statement M
+carry-spec = tie.close (tie.spec encode-requires same-length returns returns-2)
