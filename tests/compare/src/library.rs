@@ -1,0 +1,262 @@
+//! The library, by way of a program that can link it (`calls.c`). Calls go there
+//! in batches; the program checks for itself that nothing is written outside the
+//! buffers that it lends.
+
+use crate::call::{Ask, Call, Said, Seen};
+use second::{Answer, Kinds, Part, Permission, Reading, Retry};
+use std::io::{self, Read, Write};
+use std::path::PathBuf;
+use std::process::{Child, ChildStdin, Command, Stdio};
+use std::sync::mpsc::{self, Receiver, RecvTimeoutError};
+use std::thread;
+use std::time::Duration;
+
+/// How long the answers to a batch, or to one call, may take.
+const PATIENCE: Duration = Duration::from_secs(20);
+const PATIENCE_FOR_ONE: Duration = Duration::from_secs(3);
+
+pub struct Library {
+    program: PathBuf,
+    empty_is_null: bool,
+    running: Running,
+}
+
+/// The program as it runs. One thread does nothing but read its answers, so
+/// that no answer can be waited for in vain.
+struct Running {
+    child: Child,
+    calls: ChildStdin,
+    answers: Receiver<Vec<u8>>,
+}
+
+/// Why there is no answer.
+#[derive(Clone, Debug, PartialEq, Eq)]
+pub struct Lost(pub String);
+
+impl Library {
+    /// Starts the program: the one that TACIT_CALLS names, or the one that the
+    /// script `build` has made.
+    pub fn start(empty_is_null: bool) -> io::Result<Library> {
+        let program = match std::env::var_os("TACIT_CALLS") {
+            Some(named) => named.into(),
+            None => PathBuf::from(env!("CARGO_MANIFEST_DIR")).join("../../target/compare/calls"),
+        };
+        if !program.is_file() {
+            let why = format!("no {}: run tests/compare/build", program.display());
+            return Err(io::Error::new(io::ErrorKind::NotFound, why));
+        }
+        let running = Running::start(&program)?;
+        Ok(Library {
+            program,
+            empty_is_null,
+            running,
+        })
+    }
+
+    /// Asks one call and waits for its answer.
+    pub fn ask(&mut self, call: &Call) -> Seen {
+        self.send(std::slice::from_ref(call));
+        match self.receive_within(std::slice::from_ref(call), PATIENCE_FOR_ONE) {
+            Ok(mut seen) => seen.remove(0),
+            Err(lost) => Seen {
+                said: Said::Lost(lost),
+                record: call.record.clone(),
+                room: call.room().to_vec(),
+                faults: 0,
+            },
+        }
+    }
+
+    /// Sends calls, whose answers are to be received next. If they cannot be
+    /// sent, no answer will come.
+    pub fn send(&mut self, calls: &[Call]) {
+        let mut batch = vec![0; 4];
+        for call in calls {
+            put_call(&mut batch, call, self.empty_is_null);
+        }
+        let length = (batch.len() - 4) as u32;
+        batch[..4].copy_from_slice(&length.to_le_bytes());
+        let _ = self.running.calls.write_all(&batch);
+    }
+
+    /// The answers to the calls that were sent. If there are none, the program
+    /// has been started anew.
+    pub fn receive(&mut self, calls: &[Call]) -> Result<Vec<Seen>, Lost> {
+        self.receive_within(calls, PATIENCE)
+    }
+
+    fn receive_within(&mut self, calls: &[Call], patience: Duration) -> Result<Vec<Seen>, Lost> {
+        let why = match self.running.answers.recv_timeout(patience) {
+            Ok(batch) => match seen(calls, &batch) {
+                Some(seen) => return Ok(seen),
+                None => "answers that cannot be read".to_string(),
+            },
+            Err(RecvTimeoutError::Timeout) => {
+                format!("no answer within {} seconds", patience.as_secs())
+            }
+            Err(RecvTimeoutError::Disconnected) => match self.running.child.wait() {
+                Ok(status) => format!("the program ended: {status}"),
+                Err(error) => format!("the program ended: {error}"),
+            },
+        };
+        self.running.stop();
+        self.running = Running::start(&self.program).expect("it could be started before");
+        Err(Lost(why))
+    }
+}
+
+impl Running {
+    fn start(program: &PathBuf) -> io::Result<Running> {
+        let mut command = if std::env::consts::ARCH == "x86_64" {
+            Command::new(program)
+        } else {
+            let mut emulator = Command::new("qemu-x86_64");
+            emulator.arg(program);
+            emulator
+        };
+        let mut child = command
+            .stdin(Stdio::piped())
+            .stdout(Stdio::piped())
+            .spawn()
+            .map_err(|error| io::Error::new(error.kind(), format!("{command:?}: {error}")))?;
+        let calls = child.stdin.take().expect("it is a pipe");
+        let mut from = child.stdout.take().expect("it is a pipe");
+        let (to, answers) = mpsc::channel();
+        thread::spawn(move || {
+            while let Ok(batch) = read_batch(&mut from) {
+                if to.send(batch).is_err() {
+                    return;
+                }
+            }
+        });
+        Ok(Running {
+            child,
+            calls,
+            answers,
+        })
+    }
+
+    fn stop(&mut self) {
+        let _ = self.child.kill();
+        let _ = self.child.wait();
+    }
+}
+
+impl Drop for Library {
+    fn drop(&mut self) {
+        self.running.stop();
+    }
+}
+
+fn read_batch(from: &mut impl Read) -> io::Result<Vec<u8>> {
+    let mut length = [0; 4];
+    from.read_exact(&mut length)?;
+    let mut batch = vec![0; u32::from_le_bytes(length) as usize];
+    from.read_exact(&mut batch)?;
+    Ok(batch)
+}
+
+/// A call as `calls.c` takes it.
+fn put_call(batch: &mut Vec<u8>, call: &Call, empty_is_null: bool) {
+    let (which, bits, numbers) = match call.ask {
+        Ask::Read { .. } => (0, 0, [0; 3]),
+        Ask::Create {
+            roles,
+            protected,
+            enabled,
+            first,
+        } => {
+            let bits = (0..).zip(roles).map(|(bit, role)| u8::from(role) << bit);
+            (1, bits.sum(), [protected, enabled, first])
+        }
+        Ask::Initialization { .. } => (2, 0, [0; 3]),
+        Ask::Capability { .. } => (3, 0, [0; 3]),
+        Ask::LocalChange { ta_id, on, .. } => (4, u8::from(on), [ta_id, 0, 0]),
+        Ask::Mismatch => (5, 0, [0; 3]),
+        Ask::Hello { number } => (6, 0, [number, 0, 0]),
+        Ask::Closed => (7, 0, [0; 3]),
+        Ask::Permitted { kind } => (8, 0, [kind, 0, 0]),
+        Ask::PermittedKinds => (9, 0, [0; 3]),
+        Ask::RetryInterval => (10, 0, [0; 3]),
+        Ask::Sound => (11, 0, [0; 3]),
+    };
+    batch.push(which);
+    batch.push(bits | u8::from(empty_is_null) << 7);
+    for number in numbers {
+        batch.extend(number.to_le_bytes());
+    }
+    for buffer in [&call.record, call.area(), call.room()] {
+        batch.extend((buffer.len() as u32).to_le_bytes());
+    }
+    for buffer in [&call.record, call.area(), call.room()] {
+        batch.extend(buffer);
+    }
+}
+
+/// What a batch of answers says; nothing if it does not fit the calls.
+fn seen(calls: &[Call], mut batch: &[u8]) -> Option<Vec<Seen>> {
+    let mut take = |length: usize| {
+        let (taken, left) = batch.split_at_checked(length)?;
+        batch = left;
+        Some(taken)
+    };
+    let mut all = Vec::with_capacity(calls.len());
+    for call in calls {
+        let faults = take(1)?[0];
+        let said = said(&call.ask, take(10)?.try_into().unwrap());
+        let record = take(call.record.len())?.to_vec();
+        let room = take(call.room().len())?.to_vec();
+        all.push(Seen {
+            said,
+            record,
+            room,
+            faults,
+        });
+    }
+    batch.is_empty().then_some(all)
+}
+
+fn said(ask: &Ask, octets: &[u8; 10]) -> Said {
+    let pair = |at: usize| u16::from_le_bytes([octets[at], octets[at + 1]]);
+    let refusal = octets[0];
+    match ask {
+        Ask::Read { .. } => Said::Reading(Reading {
+            refusal,
+            dynamic: octets[1],
+            tac: Part {
+                start: pair(2),
+                length: pair(4),
+            },
+            sac: Part {
+                start: pair(6),
+                length: pair(8),
+            },
+        }),
+        Ask::Create { .. } => Said::Created(refusal),
+        Ask::Initialization { .. }
+        | Ask::Capability { .. }
+        | Ask::LocalChange { .. }
+        | Ask::Mismatch
+        | Ask::Hello { .. }
+        | Ask::Closed => Said::Answer(Answer {
+            refusal,
+            outcome: octets[1],
+            lost: pair(2),
+            gained: pair(4),
+            written: pair(6),
+        }),
+        Ask::Permitted { .. } => Said::Permission(Permission {
+            refusal,
+            permitted: octets[1],
+        }),
+        Ask::PermittedKinds => Said::Kinds(Kinds {
+            refusal,
+            kinds: pair(2),
+        }),
+        Ask::RetryInterval => Said::Retry(Retry {
+            refusal,
+            interval: pair(2),
+        }),
+        Ask::Sound => Said::Sound(octets[0]),
+    }
+}

@@ -1,0 +1,261 @@
+//! Stored records, sound and not.
+
+use crate::numbers::Numbers;
+
+pub const LENGTH: usize = 22;
+
+pub const READY: u8 = 0;
+pub const OPEN: u8 = 1;
+pub const HELD: u8 = 2;
+pub const GONE: u8 = 3;
+
+const INITIATING: u8 = 1 << 0;
+const ACTIVE: u8 = 1 << 1;
+const USES_TAC: u8 = 1 << 2;
+const DROPS: u8 = 1 << 3;
+pub const IN_FORCE: u8 = 1 << 4;
+const DYNAMIC: u8 = 1 << 5;
+const HELLO: u8 = 1 << 6;
+
+/// The fields of a record, whether or not they go together.
+#[derive(Clone, Copy)]
+struct Fields {
+    state: u8,
+    flags: u8,
+    enabled: u16,
+    listed: u16,
+    protected: u16,
+    disabled: u8,
+    hello: u32,
+    next: u32,
+}
+
+impl Fields {
+    fn stored(self) -> Vec<u8> {
+        let mut octets = vec![20, 0, 1, 0, self.state, self.flags];
+        octets.extend(self.enabled.to_le_bytes());
+        octets.extend(self.listed.to_le_bytes());
+        octets.extend(self.protected.to_le_bytes());
+        octets.extend([self.disabled, 0]);
+        octets.extend(self.hello.to_le_bytes());
+        octets.extend(self.next.to_le_bytes());
+        octets
+    }
+}
+
+/// A set of applications: few, half of them or all.
+pub fn applications(numbers: &mut Numbers) -> u16 {
+    let bits = match numbers.below(5) {
+        0 => 1 << numbers.below(13),
+        1 => 1 << numbers.below(13) | 1 << numbers.below(13),
+        2 => numbers.word() & numbers.word(),
+        3 => numbers.word(),
+        _ => numbers.one_of(&[0, 0x1FFF, 0x0FFF, 0x1FFE]),
+    };
+    bits as u16 & 0x1FFF
+}
+
+pub fn kinds(numbers: &mut Numbers) -> u16 {
+    let bits = match numbers.below(4) {
+        0 => 0,
+        1 => 1 << numbers.below(10),
+        2 => 0x3FF,
+        _ => numbers.word(),
+    };
+    bits as u16 & 0x3FF
+}
+
+/// A 32-bit number, often one at the edge.
+pub fn word(numbers: &mut Numbers) -> u32 {
+    let random = numbers.word();
+    let edges = [
+        0,
+        1,
+        2,
+        0xFF,
+        0x100,
+        0xFFFF,
+        0x1_0000,
+        0x7FFF_FFFF,
+        0x8000_0000,
+        u32::MAX - 1,
+        u32::MAX,
+        u32::MAX,
+    ];
+    if numbers.flag() {
+        random
+    } else {
+        numbers.one_of(&edges)
+    }
+}
+
+/// A record that is sound, of any session.
+pub fn sound(numbers: &mut Numbers) -> Vec<u8> {
+    let mut flags = numbers.octet() & (INITIATING | ACTIVE | USES_TAC | DROPS);
+    if numbers.flag() {
+        flags |= USES_TAC;
+    }
+    let drops = flags & (INITIATING | ACTIVE | DROPS) == INITIATING | ACTIVE | DROPS;
+    let state = if flags & ACTIVE == 0 {
+        numbers.one_of(&[READY, OPEN, OPEN])
+    } else if drops {
+        numbers.one_of(&[READY, OPEN, OPEN, GONE])
+    } else {
+        numbers.one_of(&[READY, OPEN, OPEN, HELD])
+    };
+    let mut fields = Fields {
+        state,
+        flags,
+        enabled: applications(numbers),
+        listed: 0,
+        protected: kinds(numbers),
+        disabled: 0,
+        hello: 0,
+        next: word(numbers),
+    };
+    if state == OPEN {
+        if numbers.chance(70) {
+            fields.flags |= DYNAMIC;
+        }
+        if numbers.flag() {
+            fields.disabled = numbers.octet() & 0x0F;
+        }
+        if flags & USES_TAC != 0 && numbers.chance(75) {
+            fields.flags |= IN_FORCE;
+            let common = 1 << numbers.below(13);
+            fields.enabled |= common;
+            fields.listed = if numbers.flag() {
+                // One in common and no more.
+                applications(numbers) & !fields.enabled | common
+            } else {
+                applications(numbers) | common
+            };
+        }
+    }
+    if state != GONE && numbers.chance(60) {
+        fields.flags |= HELLO;
+        fields.hello = word(numbers);
+    }
+    fields.stored()
+}
+
+/// A record whose fields are each possible but need not go together.
+fn unruly(numbers: &mut Numbers) -> Vec<u8> {
+    let sparse = |numbers: &mut Numbers, value: u32| if numbers.flag() { value } else { 0 };
+    Fields {
+        state: numbers.below(4) as u8,
+        flags: numbers.octet() & 0x7F,
+        enabled: applications(numbers),
+        listed: {
+            let listed = applications(numbers).into();
+            sparse(numbers, listed) as u16
+        },
+        protected: kinds(numbers),
+        disabled: {
+            let disabled = u32::from(numbers.octet() & 0x0F);
+            sparse(numbers, disabled) as u8
+        },
+        hello: {
+            let hello = word(numbers);
+            sparse(numbers, hello)
+        },
+        next: word(numbers),
+    }
+    .stored()
+}
+
+/// Held or Gone, in any role, whether or not the role goes there.
+fn by_role(numbers: &mut Numbers) -> Vec<u8> {
+    let mut fields = Fields {
+        state: numbers.one_of(&[HELD, GONE]),
+        flags: numbers.octet() & (INITIATING | ACTIVE | USES_TAC | DROPS),
+        enabled: applications(numbers),
+        listed: 0,
+        protected: kinds(numbers),
+        disabled: 0,
+        hello: 0,
+        next: word(numbers),
+    };
+    if numbers.chance(30) {
+        fields.flags |= HELLO;
+        fields.hello = word(numbers);
+    }
+    fields.stored()
+}
+
+/// A sound record with one rule between its fields broken.
+fn one_rule_broken(numbers: &mut Numbers) -> Vec<u8> {
+    let mut octets = sound(numbers);
+    match numbers.below(8) {
+        0 => octets[4] = numbers.below(6) as u8,
+        1 => octets[5] ^= numbers.one_of(&[IN_FORCE, DYNAMIC, HELLO, USES_TAC, ACTIVE, DROPS]),
+        2 => octets[12] |= 1 << numbers.below(4),
+        3 => octets[8] |= 1 << numbers.below(8),
+        4 => (octets[8], octets[9]) = (0, 0),
+        5 => octets[14 + numbers.below(4)] |= 1 << numbers.below(8),
+        6 => (octets[6], octets[7]) = (0, 0),
+        _ => octets[numbers.one_of(&[0, 1, 2, 3, 13])] ^= 1 << numbers.below(8),
+    }
+    octets
+}
+
+/// A record of any sort.
+pub fn any(numbers: &mut Numbers) -> Vec<u8> {
+    match numbers.weighted(&[38, 20, 10, 12, 8, 3, 5, 4]) {
+        0 => sound(numbers),
+        1 => {
+            let mut octets = sound(numbers);
+            octets[numbers.below(LENGTH)] ^= 1 << numbers.below(8);
+            octets
+        }
+        2 => unruly(numbers),
+        3 => one_rule_broken(numbers),
+        4 => by_role(numbers),
+        5 => numbers.octets(LENGTH),
+        6 => {
+            let mut octets = sound(numbers);
+            let (length, filler) = (any_length(numbers), numbers.octet());
+            octets.resize(length, filler);
+            octets
+        }
+        _ => {
+            let length = any_length(numbers);
+            numbers.octets(length)
+        }
+    }
+}
+
+/// 0 to 64, often close to the right length.
+pub fn any_length(numbers: &mut Numbers) -> usize {
+    if numbers.chance(30) {
+        numbers.one_of(&[LENGTH - 2, LENGTH - 1, LENGTH + 1, LENGTH + 2])
+    } else {
+        numbers.below(65)
+    }
+}
+
+/// The applications that matter to the session of this record.
+pub fn hint(record: &[u8]) -> u16 {
+    match record {
+        [_, _, _, _, _, _, e0, e1, l0, l1, ..] => {
+            (u16::from_le_bytes([*e0, *e1]) | u16::from_le_bytes([*l0, *l1])) & 0x1FFF
+        }
+        _ => 0,
+    }
+}
+
+/// The enabled applications of a record, if it is long enough.
+pub fn enabled(record: &[u8]) -> u16 {
+    match record.get(6..8) {
+        Some(octets) => u16::from_le_bytes(octets.try_into().unwrap()),
+        None => 0,
+    }
+}
+
+/// The Hello number of a record, if it is long enough.
+pub fn hello(record: &[u8]) -> u32 {
+    match record.get(14..18) {
+        Some(octets) => u32::from_le_bytes(octets.try_into().unwrap()),
+        None => 0,
+    }
+}
