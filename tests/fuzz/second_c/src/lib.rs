@@ -1,5 +1,10 @@
 //! The second implementation by C names: what `tacit_` is to the library,
 //! `second_` is to it. `second.h` says the same to C.
+//!
+//! # Safety
+//! Every call trusts its caller to keep to what `tacit.h` asks for.
+
+#![allow(clippy::missing_safety_doc)]
 
 use std::slice;
 
@@ -81,8 +86,6 @@ unsafe fn lent_mut<'a>(start: *mut u8, length: usize) -> &'a mut [u8] {
         slice::from_raw_parts_mut(start, length)
     }
 }
-
-// SAFETY, for every call below: the caller keeps to what tacit.h asks for.
 
 #[no_mangle]
 pub unsafe extern "C" fn second_read(area: *const u8, area_len: usize) -> Reading {
