@@ -73,6 +73,17 @@ fn taken(n: u8, found: Reading) -> Reading
     refuse(n)
 }
 
+// A part within an area.
+fn part_at(at: usize, len: usize) -> Span
+    requires { ⌜ at + len ≤ 4096 ⌝ }
+    ensures { λ r. ⌜ r ≡ record { start = at; len = len } ⌝ }
+{
+    Span {
+        start: at as u16,
+        len: len as u16,
+    }
+}
+
 fn take_tac(at: usize, len: usize, r: Reading) -> Reading
     requires { ⌜ at + len ≤ 4096 ⌝ }
     ensures { λ s. ⌜ s ≡ takeTac at len r ⌝ }
@@ -81,10 +92,7 @@ fn take_tac(at: usize, len: usize, r: Reading) -> Reading
     let found = Reading {
         refusal: 0,
         dynamic: r.dynamic,
-        tac: Span {
-            start: at as u16,
-            len: len as u16,
-        },
+        tac: part_at(at, len),
         sac,
     };
     taken(fault(0 < r.tac.len, len % 4 != 1), found)
@@ -99,10 +107,7 @@ fn take_sac(at: usize, len: usize, r: Reading) -> Reading
         refusal: 0,
         dynamic: r.dynamic,
         tac,
-        sac: Span {
-            start: at as u16,
-            len: len as u16,
-        },
+        sac: part_at(at, len),
     };
     taken(fault(0 < r.sac.len, len < 2), found)
 }

@@ -1,9 +1,10 @@
 // The answers: one function for each kind of them, and no event computes one by itself.
 ghost use mathlib.Core.Path.{_≡_};
-ghost use Rattle.session.specs.Events.{refused, unchanged, answered, settled};
+ghost use Rattle.session.specs.Events.{refused, unchanged, answered, settled, heard};
 use crate::After;
 use crate::Answer;
 use crate::Session;
+use area::Reading;
 
 impl Session {
     // Refused with a number: the session stays.
@@ -64,5 +65,15 @@ impl Session {
             return self.answered(after.mismatched(), 2, 0);
         }
         self.answered(after, 0, 0)
+    }
+
+    // What a message makes of the session: its area's refusal, or the session after it.
+    pub(crate) fn heard(self, found: Reading, after: Session) -> After
+        ensures { λ r. ⌜ r ≡ heard self found after ⌝ }
+    {
+        if found.refusal == 0 {
+            return self.settled(after);
+        }
+        self.refused(found.refusal)
     }
 }

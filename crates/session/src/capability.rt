@@ -56,10 +56,7 @@ impl Session {
         if self.sound() {
             if self.is_open() {
                 let found = area::read_area(area);
-                if found.refusal == 0 {
-                    return self.settled(self.capable(area, found));
-                }
-                return self.refused(found.refusal);
+                return self.heard(found, self.capable(area, found));
             }
             return self.refused(7);
         }

@@ -48,10 +48,7 @@ impl Session {
         if self.sound() {
             if self.is_ready() {
                 let found = area::read_area(area);
-                if found.refusal == 0 {
-                    return self.settled(self.opening(area, found));
-                }
-                return self.refused(found.refusal);
+                return self.heard(found, self.opening(area, found));
             }
             return self.refused(7);
         }

@@ -1,14 +1,11 @@
--- `area::take_tac` meets its contract. Assumes nothing.
+-- `take_tac` meets its contract: by what its calls promise. Assumes nothing.
 use Rattle.area.specs.Area.{takeTac}
 use borrow.Author.Needs.{needs}
 use Rattle.area.proofs.take_tac.Statement.{statement}
 use Rattle.area.proofs.take_tac.Tie as tie
 
-cast-t6 : tie.Need-cast-t6
-cast-t6 c = search needs
-
-cast-t7 : tie.Need-cast-t7
-cast-t7 c = search needs
+part-at-requires : tie.Need-part-at-requires
+part-at-requires c κs = search needs
 
 fault-requires : tie.Need-fault-requires
 fault-requires c κs = search needs
@@ -18,7 +15,7 @@ taken-requires c κs = search needs
 
 returns : tie.Need-returns
 unfolding takeTac
-returns c = simp (c .taken .ensures, c .before .fault .ensures)
+returns c = simp (c .taken .ensures, c .before .fault .ensures, c .before .before .before .part-at .ensures)
 
 pub take-tac-spec : {M : Type 1} → statement M
-take-tac-spec = tie.close (tie.spec cast-t6 cast-t7 fault-requires taken-requires returns)
+take-tac-spec = tie.close (tie.spec part-at-requires fault-requires taken-requires returns)

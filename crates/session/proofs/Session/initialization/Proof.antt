@@ -1,6 +1,5 @@
 -- `Session::initialization` meets its contract: each return by the tests that led there. Assumes nothing.
 use mathlib.Core.Path.{sym, _∙_}
-use borrow.Author.Tests.{eq-eqb, ne-eqb}
 use Rattle.choice.proofs.Branch.{pick-true, pick-false}
 use Rattle.session.specs.Events.{initialization}
 use borrow.Author.Needs.{needs}
@@ -19,33 +18,26 @@ read-area-requires c κs = search needs
 opening-requires : tie.Need-opening-requires
 opening-requires c κs = search needs
 
-settled-requires : tie.Need-settled-requires
-settled-requires c κs = search needs
+heard-requires : tie.Need-heard-requires
+heard-requires c κs = search needs
 
 returns : tie.Need-returns
 unfolding initialization
-returns c = simp (sym (c .before .before .before .before .before .before .before .before .sound .ensures) ∙ c .before .before .before .before .before .before .before .if1 .taken, sym (c .before .before .before .before .before .before .is-ready .ensures) ∙ c .before .before .before .before .before .if2 .taken, eq-eqb _ _ (c .before .before .if3 .taken), c .settled .ensures, c .before .opening .ensures, sym (c .before .before .before .before .read-area .ensures), pick-true)
+returns c = simp (sym (c .before .before .before .before .before .before .sound .ensures) ∙ c .before .before .before .before .before .if1 .taken, sym (c .before .before .before .before .is-ready .ensures) ∙ c .before .before .before .if2 .taken, c .heard .ensures, c .before .opening .ensures, c .before .before .read-area .ensures, pick-true)
 
 refused-requires : tie.Need-refused-requires
 refused-requires c κs = search needs
 
 returns-2 : tie.Need-returns-2
 unfolding initialization
-returns-2 c = simp (sym (c .before .before .before .before .before .before .before .sound .ensures) ∙ c .before .before .before .before .before .before .if1 .taken, sym (c .before .before .before .before .before .is-ready .ensures) ∙ c .before .before .before .before .if2 .taken, ne-eqb _ _ (c .before .if3 .left), c .refused .ensures, sym (c .before .before .before .read-area .ensures), pick-true, pick-false)
+returns-2 c = simp (sym (c .before .before .before .before .sound .ensures) ∙ c .before .before .before .if1 .taken, sym (c .before .before .is-ready .ensures) ∙ c .before .if2 .left, c .refused .ensures, pick-true, pick-false)
 
 refused-requires-2 : tie.Need-refused-requires-2
 refused-requires-2 c κs = search needs
 
 returns-3 : tie.Need-returns-3
 unfolding initialization
-returns-3 c = simp (sym (c .before .before .before .before .sound .ensures) ∙ c .before .before .before .if1 .taken, sym (c .before .before .is-ready .ensures) ∙ c .before .if2 .left, c .refused2 .ensures, pick-true, pick-false)
-
-refused-requires-3 : tie.Need-refused-requires-3
-refused-requires-3 c κs = search needs
-
-returns-4 : tie.Need-returns-4
-unfolding initialization
-returns-4 c = simp (sym (c .before .before .sound .ensures) ∙ c .before .if1 .left, c .refused3 .ensures, pick-false)
+returns-3 c = simp (sym (c .before .before .sound .ensures) ∙ c .before .if1 .left, c .refused2 .ensures, pick-false)
 
 pub initialization-spec : {M : Type 1} → statement M
 initialization-spec =
@@ -55,11 +47,9 @@ initialization-spec =
     is-ready-requires
     read-area-requires
     opening-requires
-    settled-requires
+    heard-requires
     returns
     refused-requires
     returns-2
     refused-requires-2
-    returns-3
-    refused-requires-3
-    returns-4)
+    returns-3)
