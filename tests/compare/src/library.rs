@@ -107,13 +107,7 @@ impl Library {
 
 impl Running {
     fn start(program: &PathBuf) -> io::Result<Running> {
-        let mut command = if std::env::consts::ARCH == "x86_64" {
-            Command::new(program)
-        } else {
-            let mut emulator = Command::new("qemu-x86_64");
-            emulator.arg(program);
-            emulator
-        };
+        let mut command = Command::new(program);
         let mut child = command
             .stdin(Stdio::piped())
             .stdout(Stdio::piped())
