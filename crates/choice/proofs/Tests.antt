@@ -1,7 +1,7 @@
 -- Two tests that hold together hold each, and the other way round. By cases on the first. Assumes nothing.
-use mathlib.Core.Path.{_≡_, refl}
+use mathlib.Core.Path.{_≡_, refl, sym}
 use mathlib.Core.Bool.{Bool, true, false, not, _&&_, false≢true}
-use Rattle.choice.specs.Pick.{only}
+use Rattle.choice.specs.Pick.{only, unless}
 
 pub and-first : (x y : Bool) → (x && y) ≡ true → x ≡ true
 and-first true y h = refl
@@ -28,3 +28,12 @@ only-gives false y h e = absurd (false≢true e)
 pub only-holds : (x y : Bool) → (x ≡ true → y ≡ true) → only x y ≡ true
 only-holds true y f = f refl
 only-holds false y f = refl
+
+-- what holds unless another does
+pub unless-gives : (x y : Bool) → unless x y ≡ true → x ≡ false → y ≡ true
+unless-gives true y h e = absurd (false≢true (sym e))
+unless-gives false y h e = h
+
+pub unless-holds : (x y : Bool) → (x ≡ false → y ≡ true) → unless x y ≡ true
+unless-holds true y f = refl
+unless-holds false y f = f refl

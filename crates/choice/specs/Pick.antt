@@ -10,3 +10,7 @@ pick false a b = b
 -- where the first holds, the second does
 abbrev pub only : Bool → Bool → Bool
 only a b = not a || b
+
+-- the second holds unless the first does
+abbrev pub unless : Bool → Bool → Bool
+unless a b = a || b

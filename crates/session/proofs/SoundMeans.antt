@@ -4,7 +4,7 @@ use mathlib.Core.Bool.{Bool, true, false, not, _&&_}
 use Prim.Native.Nat.{ℕ}
 use lib.Dec.{eqb, leb}
 use borrow.Author.Tests.{leb-true, le-leb, eqb-true, eq-eqb}
-use Rattle.choice.proofs.Tests.{and-first, and-second, and-both, not-false, only-gives, only-holds}
+use Rattle.choice.proofs.Tests.{and-first, and-second, and-both, not-false, only-gives, only-holds, unless-gives, unless-holds}
 use Rattle.sets.specs.Set.{empty, below}
 use Rattle.sets.proofs.Bounds.{below-lt, lt-below}
 use Rattle.sets.proofs.Subsets.{empty-is}
@@ -35,7 +35,7 @@ module _ (s : Session) where
       let s3 = and-second (below 13 (s .enabled)) _ s2 in
       let s4 = and-second (below 13 (s .listed)) _ s3 in
       let force : inForce s ≡ true → (isOpen s && (usesTac s && not (empty (negotiated s)))) ≡ true = λ e. only-gives (inForce s) _ (and-first (forceSound s) _ t1) e in
-      let shut : isOpen s ≡ false → (empty (s .disabled) && not (dynamic s)) ≡ true = λ e. only-gives (not (isOpen s)) _ (and-first (openSound s) _ t3) (not-true e) in
+      let shut : isOpen s ≡ false → (empty (s .disabled) && not (dynamic s)) ≡ true = λ e. unless-gives (isOpen s) _ (and-first (openSound s) _ t3) e in
       let held : isHeld s ≡ true → (active s && not (leavesGone s)) ≡ true = λ e. only-gives (isHeld s) _ (and-first (heldSound s) _ t5) e in
       let gone : isGone s ≡ true → (active s && (leavesGone s && not (recorded s))) ≡ true = λ e. only-gives (isGone s) _ (and-second (heldSound s) _ t5) e in
       record {
@@ -48,10 +48,10 @@ module _ (s : Session) where
         force-open = λ e. and-first (isOpen s) _ (force e);
         force-uses = λ e. and-first (usesTac s) _ (and-second (isOpen s) _ (force e));
         force-common = λ e. not-false _ (and-second (usesTac s) _ (and-second (isOpen s) _ (force e)));
-        unforced-listed = λ e. empty-is (s .listed) (only-gives (not (inForce s)) (empty (s .listed)) (and-first (listedSound s) _ t2) (not-true e));
+        unforced-listed = λ e. empty-is (s .listed) (unless-gives (inForce s) (empty (s .listed)) (and-first (listedSound s) _ t2) e);
         shut-disabled = λ e. empty-is (s .disabled) (and-first (empty (s .disabled)) _ (shut e));
         shut-dynamic = λ e. not-false _ (and-second (empty (s .disabled)) _ (shut e));
-        unrecorded-hello = λ e. eqb-true (s .hello) 0 (only-gives (not (recorded s)) (eqb (s .hello) 0) (and-first (helloSound s) _ t4) (not-true e));
+        unrecorded-hello = λ e. eqb-true (s .hello) 0 (unless-gives (recorded s) (eqb (s .hello) 0) (and-first (helloSound s) _ t4) e);
         held-active = λ e. and-first (active s) _ (held e);
         held-stays = λ e. not-false _ (and-second (active s) _ (held e));
         gone-active = λ e. and-first (active s) _ (gone e);
@@ -65,8 +65,8 @@ module _ (s : Session) where
       and-both _ _ (and-both _ _ (le-leb _ _ (r .state)) (and-both _ _ (lt-below 7 _ (r .flags)) (and-both _ _ (lt-below 13 _ (r .enabled))
       (and-both _ _ (lt-below 13 _ (r .listed)) (and-both _ _ (lt-below 10 _ (r .protects)) (lt-below 4 _ (r .disabled)))))))
       (and-both _ _ (only-holds (inForce s) _ (λ e. and-both _ _ (r .force-open e) (and-both _ _ (r .force-uses e) (not-true (r .force-common e)))))
-      (and-both _ _ (only-holds (not (inForce s)) _ (λ e. is-empty (r .unforced-listed (not-false _ e))))
-      (and-both _ _ (only-holds (not (isOpen s)) _ (λ e. and-both _ _ (is-empty (r .shut-disabled (not-false _ e))) (not-true (r .shut-dynamic (not-false _ e)))))
-      (and-both _ _ (only-holds (not (recorded s)) _ (λ e. eq-eqb _ 0 (r .unrecorded-hello (not-false _ e))))
+      (and-both _ _ (unless-holds (inForce s) _ (λ e. is-empty (r .unforced-listed e)))
+      (and-both _ _ (unless-holds (isOpen s) _ (λ e. and-both _ _ (is-empty (r .shut-disabled e)) (not-true (r .shut-dynamic e))))
+      (and-both _ _ (unless-holds (recorded s) _ (λ e. eq-eqb _ 0 (r .unrecorded-hello e)))
       (and-both _ _ (only-holds (isHeld s) _ (λ e. and-both _ _ (r .held-active e) (not-true (r .held-stays e))))
       (only-holds (isGone s) _ (λ e. and-both _ _ (r .gone-active e) (and-both _ _ (r .gone-leaves e) (not-true (r .gone-unrecorded e))))))))))

@@ -4,7 +4,7 @@ use Prim.Native.Nat.{ℕ, _+_, _-_, _%_, _^_, _≤_, _<_}
 use mathlib.Core.Path.{_≡_}
 use mathlib.Core.Bool.{Bool, true, false, not, _&&_}
 use lib.Dec.{eqb, leb}
-use Rattle.choice.specs.Pick.{pick, only}
+use Rattle.choice.specs.Pick.{pick, only, unless}
 use Rattle.sets.specs.Set.{has, union, common, minus, empty, below, switched}
 use Rattle.kinds.specs.Kinds.{opens, controlled, opened, disables, Some}
 use Rattle.session.specs.declared.Session.{Session}
@@ -71,15 +71,15 @@ forceSound s = only (inForce s) (isOpen s && (usesTac s && not (empty (negotiate
 
 -- "listed empty unless in force"
 unfoldable pub listedSound : Session → Bool
-listedSound s = only (not (inForce s)) (empty (s .listed))
+listedSound s = unless (inForce s) (empty (s .listed))
 
 -- "disabled and dynamic 0 unless Open"
 unfoldable pub openSound : Session → Bool
-openSound s = only (not (isOpen s)) (empty (s .disabled) && not (dynamic s))
+openSound s = unless (isOpen s) (empty (s .disabled) && not (dynamic s))
 
 -- "Hello number 0 unless recorded"
 unfoldable pub helloSound : Session → Bool
-helloSound s = only (not (recorded s)) (eqb (s .hello) 0)
+helloSound s = unless (recorded s) (eqb (s .hello) 0)
 
 -- an active end leaves by Gone if it is initiating and drops, else by Held
 abbrev pub leavesGone : Session → Bool

@@ -26,7 +26,7 @@ impl Session {
     fn listed_sound(self) -> bool
         ensures { λ r. ⌜ r ≡ listedSound self ⌝ }
     {
-        !!self.in_force() | (self.listed == 0)
+        self.in_force() | (self.listed == 0)
     }
 
     // Disabled and dynamic 0 unless Open.
@@ -34,14 +34,14 @@ impl Session {
         ensures { λ r. ⌜ r ≡ openSound self ⌝ }
     {
         let clear = (self.disabled == 0) & !self.dynamic();
-        !!self.is_open() | clear
+        self.is_open() | clear
     }
 
     // Hello number 0 unless recorded.
     fn hello_sound(self) -> bool
         ensures { λ r. ⌜ r ≡ helloSound self ⌝ }
     {
-        !!self.recorded() | (self.hello == 0)
+        self.recorded() | (self.hello == 0)
     }
 
     // Held only if active and not (initiating and drops).
