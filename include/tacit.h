@@ -14,6 +14,10 @@
  * Calls on different records may run at once; calls on one record may not,
  * unless none of them writes it.
  *
+ * A daemon with limits on how many sessions use an application keeps its
+ * sessions in a row instead, an array of up to 64 struct tacit_session, and
+ * hands the whole row to every event: see "Rows of sessions".
+ *
  * Link with libtacit.a and nothing else. C11 or C++17, x86-64.
  *
  *
@@ -23,9 +27,10 @@
  *   need be checked before.
  * - A buffer is a pointer and a length in octets. Any alignment will do. With
  *   length 0 the pointer may be NULL.
- * - A refusal is a number from 1 to 10 (enum tacit_refusal); 0 is none. It has a
+ * - A refusal is a number from 1 to 12 (enum tacit_refusal); 0 is none. It has a
  *   field of its own and is never mixed with a result. A refused call leaves
- *   every buffer exactly as it was, and all other fields of its answer are 0.
+ *   every buffer exactly as it was, and all other fields of its answer are 0,
+ *   except where the call says what they are instead.
  * - Where several refusals apply, the first in the order given at the call is
  *   the one that you get.
  * - An event that is "for" certain states is refused with 7 in the others.
@@ -36,7 +41,8 @@
  *
  * - Each pointer is good for the length that goes with it.
  * - The buffers of one call do not overlap where one of them is written: the
- *   record and the area, the record and the room.
+ *   record or the row, the area, and the room.
+ * - A row of sessions is aligned as C aligns an array of them.
  * - A bool is made by C: true or false, not an octet copied from elsewhere.
  */
 #ifndef TACIT_H
@@ -61,6 +67,9 @@ extern "C" {
 #define TACIT_MESSAGE_LENGTH 17   /* octets of a message that we write */
 #define TACIT_MESSAGE_AREA    8   /* where in it the parameter area starts, to its end */
 #define TACIT_AREA_MOST      4096 /* octets that an area may have */
+#define TACIT_ROW_MOST       64   /* sessions that a row may have */
+#define TACIT_LIMIT_MOST     64   /* the highest limit, and the one until another is set */
+#define TACIT_APPLICATIONS   13   /* how many there are: TA-Ids 1 to 13 */
 
 /*
  * Refusals. A call that asks for one gives it exactly when what stands beside it
@@ -84,15 +93,22 @@ enum tacit_refusal {
                                        octets of room */
     TACIT_REFUSED_NOT_DYNAMIC = 9,  /* there is a message to write, and the peer takes no
                                        Capability messages */
-    TACIT_REFUSED_NOT_SOUND   = 10  /* the record is not sound (see tacit_sound); at
-                                       creation, record_len is not 22 */
+    TACIT_REFUSED_NOT_SOUND   = 10, /* the record, or a session of the row, is not sound
+                                       (see tacit_sound); at creation and at
+                                       tacit_store, record_len is not 22 */
+    TACIT_REFUSED_ROW         = 11, /* the row is empty or has more than 64 sessions, or
+                                       the row number is outside it */
+    TACIT_REFUSED_LIMIT       = 12  /* a limit to be set is over 64 */
 };
 
 /* What an event came to. */
 enum tacit_outcome {
     TACIT_DONE      = 0,  /* it happened; also with every refusal */
     TACIT_UNCHANGED = 1,  /* it was so already; the record is as it was */
-    TACIT_MISMATCH  = 2   /* no application is common to both ends, or so the peer says */
+    TACIT_MISMATCH  = 2,  /* no application is common to both ends, or so the peer says */
+    TACIT_AT_LIMIT  = 3   /* there are common applications, and as many sessions of the row
+                             as its limit allows use each of them; the state is as after
+                             a mismatch. Only tacit_row_initialization comes to this */
 };
 
 enum tacit_state_number {
@@ -223,6 +239,67 @@ struct tacit_retry {
     uint16_t interval;  /* 65,535, the longest there is, in Held; 0 in every other state */
 };
 
+/*
+ * One session of a row: what a record holds, under the same names. The struct
+ * has padding (an octet after disabled, two after protects), so compare two
+ * field by field and not by memcmp. Fill it by tacit_load and write it only
+ * through the calls.
+ */
+struct tacit_session {
+    uint8_t state;      /* enum tacit_state_number */
+    uint8_t flags;      /* enum tacit_flag */
+    uint8_t disabled;   /* the Apps that the peer has disabled, App n at bit n-1 */
+    uint16_t enabled;   /* the applications enabled at this end */
+    uint16_t listed;    /* the applications that the peer lists */
+    uint16_t protects;  /* the protected kinds */
+    uint32_t hello;     /* the recorded Hello number */
+    uint32_t next;      /* the number of the next message that we write */
+};
+
+/* A session read from a record. Refused, its state is TACIT_NO_STATE and all else 0. */
+struct tacit_loaded {
+    uint8_t refusal;
+    struct tacit_session session;
+};
+
+/*
+ * The limit of each application, TA-Id n at of[n-1]: as many Open sessions of a
+ * row as may use it before one that needs it is turned away. A number over 64
+ * acts as 64. Get one from tacit_no_limits and change it by tacit_set_limit.
+ */
+struct tacit_limits {
+    uint8_t of[TACIT_APPLICATIONS];
+};
+
+/* Limits with one of them set. Refused, they are as they were handed in. */
+struct tacit_limited {
+    uint8_t refusal;
+    struct tacit_limits limits;
+};
+
+/* How many sessions of a row use an application: 0 to 64. */
+struct tacit_count {
+    uint8_t refusal;
+    uint8_t count;
+};
+
+/* An event as numbers, for tacit_row_event; the six calls below it fill this in. */
+struct tacit_event {
+    uint32_t which;   /* enum tacit_event_number */
+    uint32_t ta_id;   /* local change: which application */
+    uint32_t on;      /* local change: 0 for off, any other number for on */
+    uint32_t number;  /* Hello: its configuration sequence number */
+};
+
+enum tacit_event_number {
+    TACIT_EVENT_INITIALIZATION = 0,
+    TACIT_EVENT_CAPABILITY     = 1,
+    TACIT_EVENT_LOCAL_CHANGE   = 2,
+    TACIT_EVENT_MISMATCH       = 3,
+    TACIT_EVENT_HELLO          = 4,
+    TACIT_EVENT_CLOSED         = 5
+};
+
 TACIT_ASSERT(sizeof(bool) == 1);
 TACIT_ASSERT(sizeof(struct tacit_part) == 4);
 TACIT_ASSERT(offsetof(struct tacit_part, start) == 0);
@@ -247,6 +324,31 @@ TACIT_ASSERT(offsetof(struct tacit_kinds, kinds) == 2);
 TACIT_ASSERT(sizeof(struct tacit_retry) == 4);
 TACIT_ASSERT(offsetof(struct tacit_retry, refusal) == 0);
 TACIT_ASSERT(offsetof(struct tacit_retry, interval) == 2);
+TACIT_ASSERT(sizeof(struct tacit_session) == 20);
+TACIT_ASSERT(offsetof(struct tacit_session, state) == 0);
+TACIT_ASSERT(offsetof(struct tacit_session, flags) == 1);
+TACIT_ASSERT(offsetof(struct tacit_session, disabled) == 2);
+TACIT_ASSERT(offsetof(struct tacit_session, enabled) == 4);
+TACIT_ASSERT(offsetof(struct tacit_session, listed) == 6);
+TACIT_ASSERT(offsetof(struct tacit_session, protects) == 8);
+TACIT_ASSERT(offsetof(struct tacit_session, hello) == 12);
+TACIT_ASSERT(offsetof(struct tacit_session, next) == 16);
+TACIT_ASSERT(sizeof(struct tacit_loaded) == 24);
+TACIT_ASSERT(offsetof(struct tacit_loaded, refusal) == 0);
+TACIT_ASSERT(offsetof(struct tacit_loaded, session) == 4);
+TACIT_ASSERT(sizeof(struct tacit_limits) == 13);
+TACIT_ASSERT(offsetof(struct tacit_limits, of) == 0);
+TACIT_ASSERT(sizeof(struct tacit_limited) == 14);
+TACIT_ASSERT(offsetof(struct tacit_limited, refusal) == 0);
+TACIT_ASSERT(offsetof(struct tacit_limited, limits) == 1);
+TACIT_ASSERT(sizeof(struct tacit_count) == 2);
+TACIT_ASSERT(offsetof(struct tacit_count, refusal) == 0);
+TACIT_ASSERT(offsetof(struct tacit_count, count) == 1);
+TACIT_ASSERT(sizeof(struct tacit_event) == 16);
+TACIT_ASSERT(offsetof(struct tacit_event, which) == 0);
+TACIT_ASSERT(offsetof(struct tacit_event, ta_id) == 4);
+TACIT_ASSERT(offsetof(struct tacit_event, on) == 8);
+TACIT_ASSERT(offsetof(struct tacit_event, number) == 12);
 
 /* ------------------------------------------------------------------------ */
 /* Calls                                                                     */
@@ -403,6 +505,125 @@ struct tacit_retry tacit_retry_interval(const uint8_t *record, size_t record_len
 bool tacit_sound(const uint8_t *record, size_t record_len);
 
 /* ------------------------------------------------------------------------ */
+/* Rows of sessions                                                          */
+/* ------------------------------------------------------------------------ */
+
+/*
+ * A row is an array of 1 to 64 sessions that you own. An event happens to one of
+ * them, number at, counted from 0, and changes no other; what it does is what
+ * the call of the same name does to a record, but that an Initialization is held
+ * to the limits.
+ *
+ * A session uses an application if it is Open, negotiation is in force, and the
+ * application is both enabled here and listed by the peer. Limits are read only
+ * when an Initialization arrives: setting one turns no open session out.
+ */
+
+/* The session of a record. Refusals: 10. */
+struct tacit_loaded tacit_load(const uint8_t *record, size_t record_len);
+
+/* Stores a session in a record of 22 octets. Returns the refusal: 10. */
+uint8_t tacit_store(struct tacit_session session, uint8_t *record, size_t record_len);
+
+/* 64 for every application: no row has more sessions, so none is turned away. */
+struct tacit_limits tacit_no_limits(void);
+
+/* The limits with the one of this application set, 0 to 64. Refusals: 6, 12. */
+struct tacit_limited tacit_set_limit(struct tacit_limits limits, uint32_t ta_id, uint32_t limit);
+
+/* How many sessions of the row use this application. Refusals: 11, 10, 6. */
+struct tacit_count tacit_row_count(const struct tacit_session *row, size_t row_len, uint32_t ta_id);
+
+/*
+ * One event of one session of the row, for any of the six; a number that is no
+ * event's is refused with 7. Limits are read, and the area, only where the event
+ * is one that does; the room is written only by a local change.
+ *
+ * Refusals: 11; 10 for any session of the row; then those of the event, in its
+ * order. Refused, the row and the room are exactly as they were.
+ */
+struct tacit_answer tacit_row_event(struct tacit_session *row, size_t row_len, size_t at,
+                                    struct tacit_event event, struct tacit_limits limits,
+                                    const uint8_t *area, size_t area_len, uint8_t *room,
+                                    size_t room_len);
+
+/*
+ * tacit_initialization under limits. Where negotiation is in force and there are
+ * common applications, the session opens only if fewer sessions of the row use
+ * one of them, at least, than its limit; it then uses all of them, so that a
+ * count may pass its limit.
+ *
+ * AT_LIMIT: there is no such application. Nothing is lost, gained or written; do
+ * as after a mismatch, and go by the state.
+ */
+static inline struct tacit_answer tacit_row_initialization(struct tacit_session *row,
+                                                           size_t row_len, size_t at,
+                                                           struct tacit_limits limits,
+                                                           const uint8_t *area, size_t area_len)
+{
+    struct tacit_event event = {TACIT_EVENT_INITIALIZATION, 0, 0, 0};
+    return tacit_row_event(row, row_len, at, event, limits, area, area_len, NULL, 0);
+}
+
+/* tacit_capability for a session of the row. */
+static inline struct tacit_answer tacit_row_capability(struct tacit_session *row, size_t row_len,
+                                                       size_t at, const uint8_t *area,
+                                                       size_t area_len)
+{
+    struct tacit_event event = {TACIT_EVENT_CAPABILITY, 0, 0, 0};
+    return tacit_row_event(row, row_len, at, event, tacit_no_limits(), area, area_len, NULL, 0);
+}
+
+/* tacit_local_change for a session of the row. */
+static inline struct tacit_answer tacit_row_local_change(struct tacit_session *row, size_t row_len,
+                                                         size_t at, uint32_t ta_id, bool on,
+                                                         uint8_t *room, size_t room_len)
+{
+    struct tacit_event event = {TACIT_EVENT_LOCAL_CHANGE, ta_id, on, 0};
+    return tacit_row_event(row, row_len, at, event, tacit_no_limits(), NULL, 0, room, room_len);
+}
+
+/* tacit_mismatch for a session of the row. */
+static inline struct tacit_answer tacit_row_mismatch(struct tacit_session *row, size_t row_len,
+                                                     size_t at)
+{
+    struct tacit_event event = {TACIT_EVENT_MISMATCH, 0, 0, 0};
+    return tacit_row_event(row, row_len, at, event, tacit_no_limits(), NULL, 0, NULL, 0);
+}
+
+/* tacit_hello for a session of the row. */
+static inline struct tacit_answer tacit_row_hello(struct tacit_session *row, size_t row_len,
+                                                  size_t at, uint32_t number)
+{
+    struct tacit_event event = {TACIT_EVENT_HELLO, 0, 0, number};
+    return tacit_row_event(row, row_len, at, event, tacit_no_limits(), NULL, 0, NULL, 0);
+}
+
+/* tacit_closed for a session of the row. */
+static inline struct tacit_answer tacit_row_closed(struct tacit_session *row, size_t row_len,
+                                                   size_t at)
+{
+    struct tacit_event event = {TACIT_EVENT_CLOSED, 0, 0, 0};
+    return tacit_row_event(row, row_len, at, event, tacit_no_limits(), NULL, 0, NULL, 0);
+}
+
+/* tacit_permitted_kinds of a session by itself. Refusals: 10. */
+static inline struct tacit_kinds tacit_session_kinds(struct tacit_session session)
+{
+    uint8_t record[TACIT_RECORD_LENGTH] = {0};
+    (void)tacit_store(session, record, sizeof record);
+    return tacit_permitted_kinds(record, sizeof record);
+}
+
+/* tacit_retry_interval of a session by itself. Refusals: 10. */
+static inline struct tacit_retry tacit_session_retry(struct tacit_session session)
+{
+    uint8_t record[TACIT_RECORD_LENGTH] = {0};
+    (void)tacit_store(session, record, sizeof record);
+    return tacit_retry_interval(record, sizeof record);
+}
+
+/* ------------------------------------------------------------------------ */
 /* Words for a log                                                           */
 /* ------------------------------------------------------------------------ */
 
@@ -424,7 +645,9 @@ static inline const char *tacit_refusal_text(uint32_t refusal)
     case TACIT_REFUSED_STATE: return "event not for this state";
     case TACIT_REFUSED_ROOM: return "under 17 octets of room";
     case TACIT_REFUSED_NOT_DYNAMIC: return "peer takes no Capability messages";
-    case TACIT_REFUSED_NOT_SOUND: return "record not sound, or not of 22 octets";
+    case TACIT_REFUSED_NOT_SOUND: return "record or session not sound, or record not of 22 octets";
+    case TACIT_REFUSED_ROW: return "row empty or over 64 sessions, or row number outside it";
+    case TACIT_REFUSED_LIMIT: return "limit over 64";
     default: return "unknown";
     }
 }
@@ -435,6 +658,7 @@ static inline const char *tacit_outcome_text(uint32_t outcome)
     case TACIT_DONE: return "done";
     case TACIT_UNCHANGED: return "unchanged";
     case TACIT_MISMATCH: return "mismatch";
+    case TACIT_AT_LIMIT: return "at the limit";
     default: return "unknown";
     }
 }
