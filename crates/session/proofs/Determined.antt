@@ -9,6 +9,8 @@ use Rattle.session.proofs.Session.permitted_kinds.Reads as permitted-ki
 use Rattle.session.proofs.Session.permission.Reads as permission
 use Rattle.session.proofs.Session.retry_interval.Reads as retry-interval
 use Rattle.session.proofs.Session.initialization.Reads as initialization
+use Rattle.session.proofs.Session.limited_initialization.Reads as limited-initialization
+use Rattle.session.proofs.Session.used.Reads as used
 use Rattle.session.proofs.Session.capability.Reads as capability
 use Rattle.session.proofs.Session.local_change.Reads as local-change
 use Rattle.session.proofs.Session.mismatch.Reads as mismatch
@@ -32,6 +34,12 @@ retry-interval-determined = by-equation _
 
 pub initialization-determined : (κs : _) → Determined (initialization.Post κs)
 initialization-determined κs = by-equation _
+
+pub limited-initialization-determined : (κs : _) → Determined (limited-initialization.Post κs)
+limited-initialization-determined κs = by-equation _
+
+pub used-determined : Determined (used.Post tt)
+used-determined = by-equation _
 
 pub capability-determined : (κs : _) → Determined (capability.Post κs)
 capability-determined κs = by-equation _

@@ -26,6 +26,7 @@ use Rattle.session.specs.Session as S
 use Rattle.session.specs.Session.{isReady, isOpen, isHeld, active, usesTac, inForce, dynamic, recorded, negotiated, leavesGone, Sound, backToReady, mismatched, apart, woken, greeted, changed, numbered}
 use Rattle.session.specs.Creation.{raised, roleFlags, fresh}
 use Rattle.session.specs.Events as E
+use Rattle.session.specs.Limits.{admitted, limitedInitialization}
 use Rattle.session.specs.Events.{takesTac, opening, capable, listAfter, flagsAfter, answered, settled, sent, writing}
 
 never : {A : Type 0} {x : Bool} → x ≡ true → x ≡ false → A
@@ -393,11 +394,20 @@ settled-sound : (s t : Session) → Basic t → (apart t ≡ false → Sound t) 
 unfolding settled answered
 settled-sound s t b f = by-test Kept (λ _. mismatched-sound t b) f
 
+admitted-sound : (s t : Session) (under : ℕ) → Basic t → (apart t ≡ false → Sound t) → Kept (admitted s t under)
+unfolding admitted answered
+admitted-sound s t under b f = by-test Kept (λ _. mismatched-sound t b) (λ h. by-test Kept (λ _. mismatched-sound t b) (λ _. f h))
+
 module _ (s : Session) (r : Sound s) where
   pub initialization-kept : (a : List ℕ) → Kept (E.initialization s a)
   unfolding E.initialization
   initialization-kept a =
       by-test Kept (λ _. by-test Kept (λ q. by-test Kept (λ _. settled-sound s _ (opening-basic s r q a (readArea a)) (opening-sound s r q a (readArea a))) (λ _. r)) (λ _. r)) (λ _. r)
+
+  pub limited-initialization-kept : (a : List ℕ) (under : ℕ) → Kept (limitedInitialization s a under)
+  unfolding limitedInitialization
+  limited-initialization-kept a under =
+      by-test Kept (λ _. by-test Kept (λ q. by-test Kept (λ _. admitted-sound s _ under (opening-basic s r q a (readArea a)) (opening-sound s r q a (readArea a))) (λ _. r)) (λ _. r)) (λ _. r)
 
   pub capability-kept : (a : List ℕ) → Kept (E.capability s a)
   unfolding E.capability

@@ -70,14 +70,14 @@ opening s a r =
       next = s .next;
     }
 
--- the refusal of an area, or else the session after it
-abbrev pub heard : Session → Reading → Session → After
-heard s r after = pick (eqb (r .refusal) 0) (settled s after) (refused s (r .refusal))
+-- the refusal of an area, or else what the message came to
+abbrev pub heard : Session → Reading → After → After
+heard s r otherwise = pick (eqb (r .refusal) 0) otherwise (refused s (r .refusal))
 
 unfoldable pub initialization : Session → List ℕ → After
 initialization s a =
     let r : Reading = readArea a in
-    checked s (pick (isReady s) (heard s r (opening s a r)) (refused s 7))
+    checked s (pick (isReady s) (heard s r (settled s (opening s a r))) (refused s 7))
 
 -- ---- Capability message
 -- "with S = 0 the list is emptied and negotiation goes out of force; with S = 1 and negotiation in force E = 1 adds to the peer's list and E = 0
@@ -105,7 +105,7 @@ capable s a r =
 unfoldable pub capability : Session → List ℕ → After
 capability s a =
     let r : Reading = readArea a in
-    checked s (pick (isOpen s) (heard s r (capable s a r)) (refused s 7))
+    checked s (pick (isOpen s) (heard s r (settled s (capable s a r))) (refused s 7))
 
 -- ---- Local change of one application, on or off
 abbrev pub same : Bool → Bool → Bool

@@ -67,12 +67,12 @@ impl Session {
         self.answered(after, 0, 0)
     }
 
-    // What a message makes of the session: its area's refusal, or the session after it.
-    pub(crate) fn heard(self, found: Reading, after: Session) -> After
-        ensures { λ r. ⌜ r ≡ heard self found after ⌝ }
+    // What a message comes to: its area's refusal, or what it makes of the session.
+    pub(crate) fn heard(self, found: Reading, otherwise: After) -> After
+        ensures { λ r. ⌜ r ≡ heard self found otherwise ⌝ }
     {
         if found.refusal == 0 {
-            return self.settled(after);
+            return otherwise;
         }
         self.refused(found.refusal)
     }

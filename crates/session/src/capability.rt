@@ -56,7 +56,7 @@ impl Session {
         if self.sound() {
             if self.is_open() {
                 let found = area::read_area(area);
-                return self.heard(found, self.capable(area, found));
+                return self.heard(found, self.settled(self.capable(area, found)));
             }
             return self.refused(7);
         }

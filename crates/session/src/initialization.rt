@@ -27,7 +27,7 @@ impl Session {
     }
 
     // Open by what the area holds, before any mismatch is looked for.
-    fn opening(mut self, area: &[u8], found: Reading) -> Session
+    pub(crate) fn opening(mut self, area: &[u8], found: Reading) -> Session
         ensures { λ r. ⌜ r ≡ opening self (now (area .entry)) found ⌝ }
     {
         let takes = self.takes_tac(found);
@@ -41,17 +41,10 @@ impl Session {
         self
     }
 
-    // Initialization received (Ready only).
+    // Initialization received (Ready only): no application is at its limit.
     pub fn initialization(self, area: &[u8]) -> After
         ensures { λ r. ⌜ r ≡ initialization self (now (area .entry)) ⌝ }
     {
-        if self.sound() {
-            if self.is_ready() {
-                let found = area::read_area(area);
-                return self.heard(found, self.opening(area, found));
-            }
-            return self.refused(7);
-        }
-        self.refused(10)
+        self.limited_initialization(area, Self::ALL_APPLICATIONS)
     }
 }

@@ -12,6 +12,7 @@ mod closed;
 mod creation;
 mod hello;
 mod initialization;
+mod limits;
 mod local_change;
 mod mismatch;
 mod permitted;

@@ -18,12 +18,15 @@ read-area-requires c κs = search needs
 capable-requires : tie.Need-capable-requires
 capable-requires c κs = search needs
 
+settled-requires : tie.Need-settled-requires
+settled-requires c κs = search needs
+
 heard-requires : tie.Need-heard-requires
 heard-requires c κs = search needs
 
 returns : tie.Need-returns
 unfolding capability
-returns c = simp (sym (c .before .before .before .before .before .before .sound .ensures) ∙ c .before .before .before .before .before .if1 .taken, sym (c .before .before .before .before .is-open .ensures) ∙ c .before .before .before .if2 .taken, c .heard .ensures, c .before .capable .ensures, c .before .before .read-area .ensures, pick-true)
+returns c = simp (sym (c .before .before .before .before .before .before .before .sound .ensures) ∙ c .before .before .before .before .before .before .if1 .taken, sym (c .before .before .before .before .before .is-open .ensures) ∙ c .before .before .before .before .if2 .taken, c .heard .ensures, c .before .settled .ensures, c .before .before .capable .ensures, c .before .before .before .read-area .ensures, pick-true)
 
 refused-requires : tie.Need-refused-requires
 refused-requires c κs = search needs
@@ -47,6 +50,7 @@ capability-spec =
     is-open-requires
     read-area-requires
     capable-requires
+    settled-requires
     heard-requires
     returns
     refused-requires

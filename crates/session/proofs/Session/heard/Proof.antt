@@ -5,11 +5,8 @@ use borrow.Author.Needs.{needs}
 use Rattle.session.proofs.Session.heard.Statement.{statement}
 use Rattle.session.proofs.Session.heard.Tie as tie
 
-settled-requires : tie.Need-settled-requires
-settled-requires c κs = search needs
-
 returns : tie.Need-returns
-returns c = simp (eq-eqb _ _ (c .before .if1 .taken), c .settled .ensures, pick-true)
+returns c = simp (eq-eqb _ _ (c .if1 .taken), pick-true)
 
 refused-requires : tie.Need-refused-requires
 refused-requires c κs = search needs
@@ -18,4 +15,4 @@ returns-2 : tie.Need-returns-2
 returns-2 c = simp (ne-eqb _ _ (c .before .if1 .left), c .refused .ensures, pick-false)
 
 pub heard-spec : {M : Type 1} → statement M
-heard-spec = tie.close (tie.spec settled-requires returns refused-requires returns-2)
+heard-spec = tie.close (tie.spec returns refused-requires returns-2)

@@ -1,55 +1,15 @@
--- `Session::initialization` meets its contract: each return by the tests that led there. Assumes nothing.
-use mathlib.Core.Path.{sym, _∙_}
-use Rattle.choice.proofs.Branch.{pick-true, pick-false}
-use Rattle.session.specs.Events.{initialization}
+-- `Session::initialization` meets its contract: by the law that with every application under its limit no limit is asked. Assumes nothing.
+use mathlib.Core.Path.{_∙_}
+use Rattle.session.proofs.Unlimited.{unlimited}
 use borrow.Author.Needs.{needs}
 use Rattle.session.proofs.Session.initialization.Statement.{statement}
 use Rattle.session.proofs.Session.initialization.Tie as tie
 
-sound-requires : tie.Need-sound-requires
-sound-requires c κs = search needs
-
-is-ready-requires : tie.Need-is-ready-requires
-is-ready-requires c κs = search needs
-
-read-area-requires : tie.Need-read-area-requires
-read-area-requires c κs = search needs
-
-opening-requires : tie.Need-opening-requires
-opening-requires c κs = search needs
-
-heard-requires : tie.Need-heard-requires
-heard-requires c κs = search needs
+limited-initialization-requires : tie.Need-limited-initialization-requires
+limited-initialization-requires c κs = search needs
 
 returns : tie.Need-returns
-unfolding initialization
-returns c = simp (sym (c .before .before .before .before .before .before .sound .ensures) ∙ c .before .before .before .before .before .if1 .taken, sym (c .before .before .before .before .is-ready .ensures) ∙ c .before .before .before .if2 .taken, c .heard .ensures, c .before .opening .ensures, c .before .before .read-area .ensures, pick-true)
-
-refused-requires : tie.Need-refused-requires
-refused-requires c κs = search needs
-
-returns-2 : tie.Need-returns-2
-unfolding initialization
-returns-2 c = simp (sym (c .before .before .before .before .sound .ensures) ∙ c .before .before .before .if1 .taken, sym (c .before .before .is-ready .ensures) ∙ c .before .if2 .left, c .refused .ensures, pick-true, pick-false)
-
-refused-requires-2 : tie.Need-refused-requires-2
-refused-requires-2 c κs = search needs
-
-returns-3 : tie.Need-returns-3
-unfolding initialization
-returns-3 c = simp (sym (c .before .before .sound .ensures) ∙ c .before .if1 .left, c .refused2 .ensures, pick-false)
+returns c = c .limited-initialization .ensures ∙ unlimited _ _
 
 pub initialization-spec : {M : Type 1} → statement M
-initialization-spec =
-    tie.close
-    (tie.spec
-    sound-requires
-    is-ready-requires
-    read-area-requires
-    opening-requires
-    heard-requires
-    returns
-    refused-requires
-    returns-2
-    refused-requires-2
-    returns-3)
+initialization-spec = tie.close (tie.spec limited-initialization-requires returns)
