@@ -22,9 +22,9 @@ all: $(library) build/tacit.h build/tacit.pc
 help:
 	@echo "make            prove the library and build it: build/libtacit.a, tacit.h, tacit.pc"
 	@echo "make install    put these below PREFIX ($(PREFIX)), below DESTDIR if it is set"
-	@echo "make demo       run examples/friday.c, the incident replayed in words"
+	@echo "make demo       run examples/friday.c, the incident replayed in words, and ring.c, a night with limits"
 	@echo "make test       the gate: c-test, second and compare, then every crate proved from nothing"
-	@echo "make c-test     check the library through C: tests, sanitizers, header, demo"
+	@echo "make c-test     check the library through C: tests, sanitizers, header, demos"
 	@echo "make compare    the library against the second implementation; CALLS=$(CALLS) SEED=$(SEED)"
 	@echo "make mutants    break the second implementation rule by rule; each must be noticed"
 	@echo "make second     the second implementation's own tests"
@@ -72,7 +72,10 @@ install: $(library)
 demo: $(library)
 	@mkdir -p build
 	@$(here) tests/c/host cc -std=c11 -O2 -Wall -Wextra -Iinclude -o build/friday examples/friday.c "$(library)"
+	@$(here) tests/c/host cc -std=c11 -O2 -Wall -Wextra -Iinclude -o build/ring examples/ring.c "$(library)"
 	@$(here) tests/c/host run build/friday
+	@echo
+	@$(here) tests/c/host run build/ring
 
 test:
 	bash .ci/run

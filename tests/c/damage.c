@@ -150,6 +150,113 @@ static void long_ways(void)
     }
 }
 
+/* ---- Rows ---- */
+
+static const char *const areas_of_rows[] = {
+    "",
+    "85060001 80",
+    "85060001 80 850F0009 80 00048000 00078000",
+    "85060001 80 850F0005 80 00048000",
+    "850F0005 80 00078000 850D0003 80 C0 B0",
+    "850F000D 80 00058000 00078000 00088000",
+    "850F0001 00",
+    "850F0005 80 00070000",
+    "850F0005 80 00048000 06000000",
+};
+
+/* Any event at this session, with limits of 0 to 3, and now and then of any number. */
+static struct tacit_answer any_event(struct sessions *row, size_t at)
+{
+    uint8_t room[20] = {0};
+    struct octets area =
+        hex(areas_of_rows[any_number() % (sizeof areas_of_rows / sizeof *areas_of_rows)]);
+    uint32_t which = any_number() % 9;
+    struct row_call call = {
+        .at = at,
+        .event = {which > 6 ? TACIT_EVENT_INITIALIZATION : which, any_number() % 15,
+                  any_number() % 2, any_number() % 100},
+        .area = area.at,
+        .area_length = area.length,
+        .room = room,
+        .room_length = any_number() % 21,
+    };
+    for (unsigned i = 0; i < TACIT_APPLICATIONS; i++)
+        call.limits.of[i] = (uint8_t)(any_number() % 8 == 0 ? any_number() : any_number() % 4);
+    return row_event(row, call);
+}
+
+/* A session with one octet changed, first or last of two, and an event at either. */
+static void sessions(void)
+{
+    static const char *const rows[] = {
+        "1400 0100 00 47 4800 0000 0000 00 00 05000000 01000000",
+        "1400 0100 01 37 4800 4000 0300 09 00 00000000 FFFFFFFF",
+        "1400 0100 02 47 4800 0000 0000 00 00 05000000 01000000",
+        "1400 0100 03 0F 4800 0000 0000 00 00 00000000 01000000",
+    };
+    struct record other = opened(APP(4) | APP(7), "85060001 80 850F0005 80 00048000");
+    for (size_t row = 0; row < sizeof rows / sizeof *rows; row++) {
+        for (size_t at = 4; at < TACIT_RECORD_LENGTH; at++) {
+            for (unsigned value = 0; value < 256; value++) {
+                trying("session %zu with octet %zu as %u", row, at, value);
+                struct record damaged = record_of(rows[row]);
+                if (at != 13)
+                    damaged.octets[at] = (uint8_t)value;
+                struct sessions two = {.length = 2};
+                two.at[value % 2] = session_in(&damaged);
+                two.at[1 - value % 2] = session_in(&other);
+                any_event(&two, value / 2 % 2);
+            }
+        }
+    }
+}
+
+static void sessions_without_order(void)
+{
+    for (int i = 0; i < 2000; i++) {
+        trying("session %d without order", i);
+        struct record record = {{0}, TACIT_RECORD_LENGTH};
+        for (size_t at = 4; at < TACIT_RECORD_LENGTH; at++)
+            record.octets[at] = (uint8_t)any_number();
+        record.octets[13] = 0;
+        struct sessions row = {.at = {session_in(&record)}, .length = 1};
+        struct record copy = {{7}, TACIT_RECORD_LENGTH};
+        store(row.at[0], &copy);
+        any_event(&row, 0);
+        row_count(&row, any_number() % 15);
+    }
+}
+
+/*
+ * Long ways through all events from a row of fresh sessions of every sort. Each
+ * count is how often a session gained the application less how often one lost it.
+ */
+static void long_ways_of_rows(void)
+{
+    struct sessions row = {.length = 32};
+    unsigned count[TACIT_APPLICATIONS + 1] = {0}, outcomes[4] = {0};
+    for (unsigned ends = 0; ends < row.length; ends++) {
+        struct record record = {{0}, TACIT_RECORD_LENGTH};
+        create(&record, ends & 1, ends & 2, (ends & 12) != 12, ends & 8, 0x101,
+               APP(4) | APP(7) | APP(8), any_number());
+        row.at[ends] = session_in(&record);
+    }
+    for (int step = 0; step < 6000; step++) {
+        size_t at = any_number() % (row.length + 1);
+        trying("step %d, at session %zu of a row", step, at);
+        uint32_t before = used(row.at[at]);
+        struct tacit_answer answer = any_event(&row, at);
+        CHECK((answer.refusal == 11) == (at == row.length) && answer.refusal != 10);
+        outcomes[answer.outcome % 4]++;
+        uint32_t after = used(row.at[at]), ta_id = (uint32_t)step % TACIT_APPLICATIONS + 1;
+        for (uint32_t each = 1; each <= TACIT_APPLICATIONS; each++)
+            count[each] += (after >> (each - 1) & 1) - (before >> (each - 1) & 1);
+        CHECK(row_count(&row, ta_id).count == count[ta_id]);
+    }
+    for (unsigned outcome = 0; outcome < 4; outcome++)
+        CHECK(outcomes[outcome] > 50);
+}
+
 void damage(void)
 {
     test("records with one octet changed", records);
@@ -157,4 +264,7 @@ void damage(void)
     test("areas cut and with bits turned", areas);
     test("areas without order", areas_without_order);
     test("long ways through all events", long_ways);
+    test("sessions of a row with one octet changed", sessions);
+    test("sessions without order", sessions_without_order);
+    test("long ways of a row through all events", long_ways_of_rows);
 }

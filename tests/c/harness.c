@@ -52,8 +52,6 @@ void test(const char *name, void (*body)(void))
 
 /* ---- Where buffers lie ---- */
 
-enum place { RECORD, AREA, ROOM, PLACES };
-
 #define ARENA ((size_t)2 << 20)
 #define MARGIN 64
 
@@ -83,7 +81,7 @@ static uint8_t *margin_of(enum place place, size_t length)
                                       : arena[place] + length;
 }
 
-static uint8_t *lend(enum place place, const uint8_t *content, size_t length)
+uint8_t *lend(enum place place, const uint8_t *content, size_t length)
 {
     if (length > ARENA - MARGIN) {
         puts("a buffer is too long for the harness");
@@ -98,12 +96,12 @@ static uint8_t *lend(enum place place, const uint8_t *content, size_t length)
     return octets;
 }
 
-static bool margin_kept(enum place place, size_t length)
+bool margin_kept(enum place place, size_t length)
 {
     return memcmp(margin_of(place, length), margin_octets, MARGIN) == 0;
 }
 
-static bool same(const uint8_t *a, const uint8_t *b, size_t length)
+bool same(const uint8_t *a, const uint8_t *b, size_t length)
 {
     return length == 0 || memcmp(a, b, length) == 0;
 }
@@ -465,6 +463,7 @@ int main(void)
     lend_with(GUARD_BEHIND, false);
     examples();
     rules();
+    rows();
     refusals();
     lengths();
     numbers();
@@ -475,6 +474,7 @@ int main(void)
     lend_with(GUARD_BEFORE, true);
     examples();
     rules();
+    rows();
     refusals();
     lengths();
     numbers();

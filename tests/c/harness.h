@@ -28,6 +28,15 @@ bool check(bool holds, const char *file, int line, const char *fact);
 enum side { GUARD_BEHIND, GUARD_BEFORE };
 void lend_with(enum side side, bool empty_is_null);
 
+/* For the wrappers: a buffer with this content, one at a time in each place. */
+enum place { RECORD, AREA, ROOM, ROW, PLACES };
+uint8_t *lend(enum place place, const uint8_t *content, size_t length);
+
+/* Are the octets beside a buffer of this length as they were? */
+bool margin_kept(enum place place, size_t length);
+
+bool same(const uint8_t *a, const uint8_t *b, size_t length);
+
 /* ---- Sessions ---- */
 
 #define RECORD_MOST 64
@@ -80,6 +89,57 @@ struct tacit_answer capability_text(struct record *record, const char *area);
 /* The set of kinds permitted, of a record that must be sound. */
 uint32_t kinds(const struct record *record);
 
+/* ---- Rows ---- */
+
+#define SESSIONS_MOST 72 /* more than a row may have */
+
+struct sessions {
+    struct tacit_session at[SESSIONS_MOST];
+    size_t length;
+};
+
+bool same_session(struct tacit_session a, struct tacit_session b);
+
+/* The record that holds a session, sound or not, and the reverse; without the library. */
+struct record record_for(struct tacit_session session);
+struct tacit_session session_in(const struct record *record);
+
+/* The set of applications that a session uses. */
+uint32_t used(struct tacit_session session);
+
+struct tacit_loaded load(const struct record *record);
+uint8_t store(struct tacit_session session, struct record *record);
+struct tacit_limited set_limit(struct tacit_limits limits, uint32_t ta_id, uint32_t limit);
+struct tacit_count row_count(const struct sessions *row, uint32_t ta_id);
+
+/* What a row's event is given beside the row. */
+struct row_call {
+    size_t at;
+    struct tacit_event event;
+    struct tacit_limits limits;
+    const uint8_t *area;
+    size_t area_length;
+    uint8_t *room;
+    size_t room_length; /* at most 64 */
+};
+
+/*
+ * Makes the call twice, by tacit_row_event and by the event's own name, each time
+ * with other octets as padding. Both must come to what the call for a record
+ * comes to, with the limits held to, and touch nothing else.
+ */
+struct tacit_answer row_event(struct sessions *row, struct row_call call);
+
+/* The six events by their names, with areas in hexadecimal. */
+struct tacit_answer row_initialization(struct sessions *row, size_t at, struct tacit_limits limits,
+                                       const char *area);
+struct tacit_answer row_capability(struct sessions *row, size_t at, const char *area);
+struct tacit_answer row_local_change(struct sessions *row, size_t at, uint32_t ta_id, bool on,
+                                     uint8_t *room, size_t room_length);
+struct tacit_answer row_mismatch(struct sessions *row, size_t at);
+struct tacit_answer row_hello(struct sessions *row, size_t at, uint32_t number);
+struct tacit_answer row_closed(struct sessions *row, size_t at);
+
 /* ---- Numbers without order ---- */
 
 /* The same ones in every run. */
@@ -89,6 +149,7 @@ uint32_t any_number(void);
 
 void examples(void);
 void rules(void);
+void rows(void);
 void refusals(void);
 void lengths(void);
 void numbers(void);

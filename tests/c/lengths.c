@@ -35,6 +35,28 @@ static void nothing_at_all(void)
     CHECK(tacit_local_change(record, sizeof record, 7, false, NULL, 0).refusal == 9);
 }
 
+static void no_row_at_all(void)
+{
+    const struct tacit_limits limits = tacit_no_limits();
+    struct tacit_session session = {.flags = TACIT_FLAG_USES_TAC, .enabled = APP(7)};
+    CHECK(tacit_load(NULL, 0).refusal == 10);
+    CHECK(tacit_load(NULL, 0).session.state == TACIT_NO_STATE);
+    CHECK(tacit_store(session, NULL, 0) == 10);
+    CHECK(tacit_row_count(NULL, 0, 1).refusal == 11);
+    CHECK(tacit_row_initialization(NULL, 0, 0, limits, NULL, 0).refusal == 11);
+    CHECK(tacit_row_capability(NULL, 0, 0, NULL, 0).refusal == 11);
+    CHECK(tacit_row_local_change(NULL, 0, 0, 1, true, NULL, 0).refusal == 11);
+    CHECK(tacit_row_mismatch(NULL, 0, 0).refusal == 11);
+    CHECK(tacit_row_hello(NULL, 0, 0, 1).refusal == 11);
+    CHECK(tacit_row_closed(NULL, 0, 0).refusal == 11);
+
+    CHECK(tacit_row_local_change(&session, 1, 0, 6, true, NULL, 0).outcome == TACIT_DONE);
+    CHECK(tacit_row_initialization(&session, 1, 0, limits, NULL, 0).outcome == TACIT_DONE);
+    CHECK(tacit_row_capability(&session, 1, 0, NULL, 0).outcome == TACIT_DONE);
+    CHECK(tacit_row_local_change(&session, 1, 0, 7, false, NULL, 0).refusal == 9);
+    CHECK(session.state == TACIT_OPEN && session.enabled == (APP(6) | APP(7)));
+}
+
 /* A sound record, cut or with octets behind it, in every call. */
 static void records(void)
 {
@@ -50,7 +72,9 @@ static void records(void)
         CHECK(permitted(&original, 8).refusal == wanted);
         CHECK(permitted_kinds(&original).refusal == wanted);
         CHECK(retry_interval(&original).refusal == wanted);
+        CHECK(load(&original).refusal == wanted);
         struct record record = original;
+        CHECK(store(session_in(&original), &record) == wanted);
         CHECK(capability_text(&record, "").refusal == wanted);
         record = original;
         CHECK(local_change(&record, 5, true, room, sizeof room).refusal == wanted);
@@ -62,6 +86,30 @@ static void records(void)
         CHECK(closed(&record).refusal == wanted);
         CHECK(initialization_text(&record, "").refusal == wanted);
         CHECK(create(&record, true, true, true, true, 0, 0, 0) == wanted);
+    }
+}
+
+/* Rows with too few sessions or too many, and row numbers around their ends. */
+static void rows_of_sessions(void)
+{
+    struct record record = opened(APP(4) | APP(7), dynamic_fec129);
+    struct sessions row = {.length = SESSIONS_MOST};
+    for (size_t i = 0; i < SESSIONS_MOST; i++)
+        row.at[i] = session_in(&record);
+    for (row.length = 0; row.length <= SESSIONS_MOST; row.length++) {
+        bool right = row.length >= 1 && row.length <= TACIT_ROW_MOST;
+        trying("a row of %zu sessions", row.length);
+        CHECK(row_count(&row, 7).refusal == (right ? 0 : 11));
+        CHECK(row_count(&row, 7).count == (right ? row.length : 0));
+        CHECK(row_count(&row, 4).count == 0);
+        const size_t numbers[] = {0,  1,  row.length / 2, row.length - 1, row.length,
+                                  63, 64, 65,             SIZE_MAX};
+        for (size_t i = 0; i < sizeof numbers / sizeof *numbers; i++) {
+            size_t at = numbers[i];
+            trying("session %zu of a row of %zu", at, row.length);
+            struct sessions copy = row;
+            CHECK(row_hello(&copy, at, 1).refusal == (right && at < row.length ? 0 : 11));
+        }
     }
 }
 
@@ -90,6 +138,16 @@ static void areas(void)
         CHECK(initialization(&record, area, length).refusal == wanted);
         record = opened(APP(4), "");
         CHECK(capability(&record, area, length).refusal == wanted);
+        struct sessions row = {.length = 2};
+        row.at[0] = row.at[1] = session_in(&record);
+        struct row_call call = {.at = 1,
+                                .event = {.which = TACIT_EVENT_CAPABILITY},
+                                .area = area,
+                                .area_length = length};
+        CHECK(row_event(&row, call).refusal == wanted);
+        row_closed(&row, 1);
+        call.event.which = TACIT_EVENT_INITIALIZATION;
+        CHECK(row_event(&row, call).refusal == wanted);
     }
 }
 
@@ -142,17 +200,42 @@ static void rooms(void)
     }
 }
 
+static void rooms_in_rows(void)
+{
+    for (size_t length = 0; length <= 40; length++) {
+        trying("a room of %zu octets", length);
+        uint8_t room[40], as_found[40];
+        for (size_t i = 0; i < sizeof room; i++)
+            room[i] = as_found[i] = (uint8_t)(0x5A + i);
+        struct record record = opened(APP(4) | APP(7), dynamic_fec129);
+        struct sessions row = {.at = {session_in(&record)}, .length = 1};
+        struct tacit_answer answer = row_local_change(&row, 0, 5, true, room, length);
+        size_t written = length < 17 ? 0 : 17;
+        CHECK(answer.refusal == (length < 17 ? 8 : 0));
+        CHECK(answer.written == written);
+        CHECK(memcmp(room + written, as_found + written, sizeof room - written) == 0);
+    }
+}
+
 /* Lengths that are right only if their upper 32 bits are lost. */
+
+static const size_t more = (size_t)1 << 32;
+
+static uint8_t *lend_more(void)
+{
+    uint8_t *octets = mmap(NULL, more + 4096, PROT_READ | PROT_WRITE,
+                           MAP_PRIVATE | MAP_ANONYMOUS | MAP_NORESERVE, -1, 0);
+    if (octets != MAP_FAILED)
+        return octets;
+    puts("  skipped: this machine does not lend 4 GiB of addresses");
+    return NULL;
+}
+
 static void beyond_32_bits(void)
 {
-    size_t more = (size_t)1 << 32;
-    size_t length = more + 4096;
-    uint8_t *octets = mmap(NULL, length, PROT_READ | PROT_WRITE,
-                           MAP_PRIVATE | MAP_ANONYMOUS | MAP_NORESERVE, -1, 0);
-    if (octets == MAP_FAILED) {
-        puts("  skipped: this machine does not lend 4 GiB of addresses");
+    uint8_t *octets = lend_more();
+    if (octets == NULL)
         return;
-    }
     uint8_t *record = octets;
     size_t right = TACIT_RECORD_LENGTH;
     CHECK(tacit_create(record, more + right, true, true, true, false, 0, APP(7), 1) == 10);
@@ -182,15 +265,49 @@ static void beyond_32_bits(void)
     struct tacit_answer answer = tacit_local_change(record, right, 4, true, room, more);
     CHECK(answer.refusal == 0 && answer.written == 17);
     CHECK(room[16] == 0 && room[15] == 0x80 && room[17] == 0);
-    munmap(octets, length);
+    munmap(octets, more + 4096);
+}
+
+static void rows_beyond_32_bits(void)
+{
+    uint8_t *octets = lend_more();
+    if (octets == NULL)
+        return;
+    uint8_t *record = octets, *area = octets + 1024, *room = octets + 2048;
+    const size_t right = TACIT_RECORD_LENGTH;
+    const struct tacit_limits limits = tacit_no_limits();
+    struct tacit_session session = {.flags = TACIT_FLAG_USES_TAC, .enabled = APP(7)};
+    CHECK(tacit_store(session, record, more + right) == 10 && record[0] == 0);
+    CHECK(tacit_store(session, record, right) == 0);
+    CHECK(tacit_load(record, more + right).refusal == 10);
+
+    /* No memory holds a row of that many, but its length is asked before it is looked at. */
+    CHECK(tacit_row_count(&session, more + 1, 7).refusal == 11);
+    CHECK(tacit_row_hello(&session, more + 1, 0, 1).refusal == 11);
+    CHECK(tacit_row_hello(&session, SIZE_MAX, 0, 1).refusal == 11);
+    CHECK(tacit_row_hello(&session, 1, more, 1).refusal == 11);
+    CHECK(tacit_row_initialization(&session, 1, 0, limits, area, more).refusal == 1);
+    struct octets opening = hex(dynamic_fec129);
+    CHECK(tacit_row_initialization(&session, 1, 0, limits, opening.at, opening.length).outcome ==
+          TACIT_DONE);
+    CHECK(tacit_row_capability(&session, 1, 0, area, more).refusal == 1);
+    struct tacit_answer answer = tacit_row_local_change(&session, 1, 0, 4, true, room, more);
+    CHECK(answer.refusal == 0 && answer.written == 17);
+    CHECK(room[16] == 0 && room[15] == 0x80 && room[17] == 0);
+    CHECK(session.hello == 0 && session.next == 1);
+    munmap(octets, more + 4096);
 }
 
 void lengths(void)
 {
     test("NULL with length 0", nothing_at_all);
+    test("NULL with length 0, for rows", no_row_at_all);
     test("records of 0 to 64 octets", records);
+    test("rows of 0 to 72 sessions", rows_of_sessions);
     test("areas around 4,096 octets and far over", areas);
     test("areas full of elements", full_areas);
     test("rooms of 0 to 40 octets", rooms);
+    test("rooms of 0 to 40 octets, in rows", rooms_in_rows);
     test("lengths beyond 32 bits", beyond_32_bits);
+    test("lengths of rows beyond 32 bits", rows_beyond_32_bits);
 }

@@ -1,6 +1,8 @@
 /* Numbers of all 32 bits. */
 #include "harness.h"
 
+#include <string.h>
+
 #define APP(n) TACIT_APP_SET(n)
 
 /*
@@ -161,6 +163,181 @@ static void message_numbers(void)
     }
 }
 
+/* ---- Rows ---- */
+
+static const char both[] = "85060001 80 850F0009 80 00048000 00078000";
+
+/* Two Open sessions that enable 4 and 7 and use both. */
+static struct sessions two_open(void)
+{
+    struct record record = opened(APP(4) | APP(7), both);
+    struct sessions row = {.at = {session_in(&record), session_in(&record)}, .length = 2};
+    return row;
+}
+
+static void event_numbers(void)
+{
+    static const uint8_t in_open[] = {7, 0, 0, 0, 0, 0};
+    for (unsigned i = 0; i < NUMBERS; i++) {
+        uint32_t which = number(i);
+        trying("event %lu", (unsigned long)which);
+        struct sessions row = two_open();
+        uint8_t room[17] = {0};
+        struct row_call call = {
+            .at = 1, .event = {which, 5, 1, 9}, .room = room, .room_length = sizeof room};
+        CHECK(row_event(&row, call).refusal == (which <= 5 ? in_open[which] : 7));
+    }
+}
+
+/* On is any number but 0, whichever of its bits is set. */
+static void on_and_off(void)
+{
+    for (unsigned i = 0; i < NUMBERS; i++) {
+        uint32_t on = number(i);
+        trying("on as %lu", (unsigned long)on);
+        struct sessions row = two_open();
+        uint8_t room[17] = {0};
+        struct row_call call = {.at = 0,
+                                .event = {TACIT_EVENT_LOCAL_CHANGE, 5, on, 9},
+                                .room = room,
+                                .room_length = sizeof room};
+        CHECK(row_event(&row, call).outcome == (on != 0 ? TACIT_DONE : TACIT_UNCHANGED));
+        CHECK(row.at[0].enabled == (APP(4) | APP(7) | (on != 0 ? APP(5) : 0)));
+        call.event.ta_id = 4;
+        CHECK(row_event(&row, call).outcome == (on != 0 ? TACIT_UNCHANGED : TACIT_DONE));
+        CHECK(row.at[0].enabled == (APP(7) | (on != 0 ? APP(4) | APP(5) : 0)));
+    }
+}
+
+static void applications_of_rows(void)
+{
+    const struct tacit_limits limits = tacit_no_limits();
+    for (unsigned i = 0; i < NUMBERS; i++) {
+        uint32_t ta_id = number(i);
+        trying("TA-Id %lu in a row", (unsigned long)ta_id);
+        bool known = ta_id >= 1 && ta_id <= 13;
+        struct sessions row = two_open();
+        CHECK(row_count(&row, ta_id).refusal == (known ? 0 : 6));
+        CHECK(row_count(&row, ta_id).count == (ta_id == 4 || ta_id == 7 ? 2 : 0));
+        CHECK(set_limit(limits, ta_id, ta_id).refusal == (known ? 0 : 6));
+        uint8_t room[17] = {0};
+        struct tacit_answer answer = row_local_change(&row, 1, ta_id, true, room, sizeof room);
+        CHECK(answer.refusal == (known ? 0 : 6));
+        CHECK(row.at[1].enabled == (APP(4) | APP(7) | (known ? APP(ta_id) : 0)));
+    }
+}
+
+/* Also those whose lowest octet alone would be a limit. */
+static void limits_to_set(void)
+{
+    struct tacit_limits limits;
+    for (unsigned i = 0; i < TACIT_APPLICATIONS; i++)
+        limits.of[i] = (uint8_t)(19 * i + 3);
+    for (unsigned i = 0; i < NUMBERS; i++) {
+        uint32_t limit = number(i), ta_id = i % TACIT_APPLICATIONS + 1;
+        trying("limit %lu for %lu", (unsigned long)limit, (unsigned long)ta_id);
+        /* The wrapper looks at the other limits, which are all different. */
+        CHECK(set_limit(limits, ta_id, limit).refusal == (limit <= 64 ? 0 : 12));
+    }
+}
+
+static void row_numbers(void)
+{
+    for (unsigned i = 0; i < NUMBERS; i++) {
+        size_t at = number(i);
+        if (i % 3 == 2)
+            at = at << 32 | (at & 1);
+        trying("row number %zu", at);
+        struct sessions row = two_open();
+        CHECK(row_hello(&row, at, 9).refusal == (at < 2 ? 0 : 11));
+        CHECK(row.at[0].hello == (at == 0 ? 9 : 0) && row.at[1].hello == (at == 1 ? 9 : 0));
+    }
+}
+
+/* All that is handed over by value differs, and only what an event reads has an effect. */
+static void fields_of_events(void)
+{
+    static const struct tacit_limits limits = {{21, 22, 23, 24, 25, 26, 27, 28, 29, 30, 31, 32, 33}};
+    struct octets area = hex("850D0002 80 90");
+    uint8_t room[19] = {0};
+    struct sessions row = two_open();
+    struct row_call call = {.at = 1,
+                            .event = {TACIT_EVENT_HELLO, 0x0B0C0D0E, 0x1B1C1D1E, 0x2B2C2D2E},
+                            .limits = limits,
+                            .area = area.at,
+                            .area_length = area.length,
+                            .room = room,
+                            .room_length = sizeof room};
+    CHECK(row_event(&row, call).outcome == TACIT_DONE);
+    CHECK(row.at[1].hello == 0x2B2C2D2E && row.at[1].enabled == (APP(4) | APP(7)));
+    call.event.which = TACIT_EVENT_CAPABILITY;
+    CHECK(row_event(&row, call).lost == TACIT_KIND_SET(0));
+    CHECK(row.at[1].disabled == 1 && room[0] == 0);
+    call.event.which = TACIT_EVENT_LOCAL_CHANGE;
+    call.event.ta_id = 10;
+    CHECK(row_event(&row, call).written == 17);
+    CHECK(row.at[1].enabled == (APP(4) | APP(7) | APP(10)) && room[14] == 10);
+    CHECK(row.at[1].hello == 0x2B2C2D2E && row.at[1].next == 2 && row.at[0].next == 1);
+}
+
+/* Writes an area that lists the TA-Ids from first to last. */
+static size_t list(uint8_t *area, uint32_t first, uint32_t last)
+{
+    uint8_t length = (uint8_t)(1 + 4 * (last - first + 1));
+    const uint8_t head[] = {0x85, 0x0F, 0, length, 0x80};
+    memcpy(area, head, sizeof head);
+    for (uint32_t ta_id = first; ta_id <= last; ta_id++) {
+        const uint8_t element[] = {0, (uint8_t)ta_id, 0x80, 0};
+        memcpy(area + sizeof head + 4 * (ta_id - first), element, sizeof element);
+    }
+    return 4 + (size_t)length;
+}
+
+/* The outcome where the peer of one session lists these, and the row after it. */
+static uint8_t outcome_with(struct sessions row, size_t at, struct tacit_limits limits,
+                            uint32_t first, uint32_t last, struct sessions *after)
+{
+    uint8_t area[64], room[3] = {1, 2, 3};
+    struct row_call call = {.at = at,
+                            .event = {TACIT_EVENT_INITIALIZATION, 0x41, 0x42, 0x43},
+                            .limits = limits,
+                            .area = area,
+                            .area_length = list(area, first, last),
+                            .room = room,
+                            .room_length = sizeof room};
+    struct tacit_answer answer = row_event(&row, call);
+    CHECK(answer.refusal == 0);
+    if (after != NULL)
+        *after = row;
+    return answer.outcome;
+}
+
+/* Application n is used by n sessions: each limit, and no other, lets it in or not. */
+static void own_limits(void)
+{
+    struct record record = fresh(TACIT_ALL_APPS);
+    struct sessions row = {.length = 14};
+    struct tacit_limits full;
+    for (uint32_t i = 0; i <= 13; i++)
+        row.at[i] = session_in(&record);
+    for (uint32_t n = 1; n <= 13; n++) {
+        CHECK(outcome_with(row, n - 1, tacit_no_limits(), n, 13, &row) == TACIT_DONE);
+        full.of[n - 1] = (uint8_t)n;
+    }
+    CHECK(outcome_with(row, 13, full, 1, 13, NULL) == TACIT_AT_LIMIT);
+    for (uint32_t n = 1; n <= 13; n++) {
+        trying("the limit of %lu", (unsigned long)n);
+        CHECK(row_count(&row, n).count == n);
+        CHECK(outcome_with(row, 13, full, n, n, NULL) == TACIT_AT_LIMIT);
+        struct tacit_limits limits = set_limit(full, n, n + 1).limits;
+        CHECK(outcome_with(row, 13, limits, n, n, NULL) == TACIT_DONE);
+        CHECK(outcome_with(row, 13, limits, 1, 13, NULL) == TACIT_DONE);
+        limits = set_limit(tacit_no_limits(), n, n).limits;
+        CHECK(outcome_with(row, 13, limits, n, n, NULL) == TACIT_AT_LIMIT);
+        CHECK(outcome_with(row, 13, limits, 1, 13, NULL) == TACIT_DONE);
+    }
+}
+
 void numbers(void)
 {
     test("TA-Ids of all 32 bits", applications);
@@ -170,4 +347,11 @@ void numbers(void)
     test("TA-Ids of 16 bits in a list", listed);
     test("Hello numbers of all 32 bits", hellos);
     test("message numbers, and 0 after the last", message_numbers);
+    test("event numbers of all 32 bits", event_numbers);
+    test("on and off of all 32 bits", on_and_off);
+    test("TA-Ids of all 32 bits, in rows", applications_of_rows);
+    test("limits of all 32 bits", limits_to_set);
+    test("row numbers of all 64 bits", row_numbers);
+    test("fields of events, all different", fields_of_events);
+    test("the limit of each application", own_limits);
 }

@@ -1,20 +1,53 @@
-// The header in C++17, and one session through it.
+// The header in C++17, with one session and one row through it.
 #include "tacit.h"
 
 #include <cstring>
 
+static const uint8_t area[] = {0x85, 0x0F, 0, 5, 0x80, 0, 7, 0x80, 0};
+
+static bool one_session(uint8_t *record, size_t record_len)
+{
+    const tacit_answer answer = tacit_initialization(record, record_len, area, sizeof area);
+    if (answer.outcome != TACIT_DONE || tacit_state(record, record_len) != TACIT_OPEN)
+        return false;
+    const tacit_kinds kinds = tacit_permitted_kinds(record, record_len);
+    return kinds.kinds == TACIT_KIND_SET(TACIT_KIND_GENERALIZED_PWID) &&
+           std::strcmp(tacit_outcome_text(answer.outcome), "done") == 0;
+}
+
+// Of two sessions one is let in, then the other, when the first is closed.
+static bool one_row(const uint8_t *record, size_t record_len)
+{
+    const tacit_session fresh = tacit_load(record, record_len).session;
+    tacit_session row[] = {fresh, fresh};
+    const tacit_limits limits = tacit_set_limit(tacit_no_limits(), TACIT_APP_FEC129_PW, 1).limits;
+    uint8_t room[TACIT_MESSAGE_LENGTH];
+    for (size_t at = 0; at < 2; at++) {
+        const tacit_answer answer =
+            tacit_row_initialization(row, 2, at, limits, area, sizeof area);
+        if (answer.outcome != (at == 0 ? TACIT_DONE : TACIT_AT_LIMIT))
+            return false;
+    }
+    if (tacit_row_count(row, 2, TACIT_APP_FEC129_PW).count != 1 ||
+        tacit_session_retry(row[1]).interval != 65535 || tacit_row_hello(row, 2, 1, 1).refusal != 0)
+        return false;
+    if (tacit_row_capability(row, 2, 0, area, sizeof area).refusal != 0 ||
+        tacit_row_closed(row, 2, 0).lost != TACIT_KIND_SET(TACIT_KIND_GENERALIZED_PWID) ||
+        tacit_row_local_change(row, 2, 1, 4, true, room, sizeof room).outcome != TACIT_DONE)
+        return false;
+    return tacit_row_initialization(row, 2, 1, limits, area, sizeof area).outcome == TACIT_DONE &&
+           tacit_session_kinds(row[1]).kinds == TACIT_KIND_SET(TACIT_KIND_GENERALIZED_PWID) &&
+           tacit_row_mismatch(row, 2, 1).outcome == TACIT_MISMATCH;
+}
+
 int main()
 {
-    uint8_t record[TACIT_RECORD_LENGTH];
-    const uint8_t area[] = {0x85, 0x0F, 0, 5, 0x80, 0, 7, 0x80, 0};
+    uint8_t record[TACIT_RECORD_LENGTH], stored[TACIT_RECORD_LENGTH];
     if (tacit_create(record, sizeof record, true, true, true, false, 0,
                      TACIT_APP_SET(TACIT_APP_FEC129_PW), 1) != TACIT_NOT_REFUSED)
         return 1;
-    const tacit_answer answer = tacit_initialization(record, sizeof record, area, sizeof area);
-    if (answer.outcome != TACIT_DONE || tacit_state(record, sizeof record) != TACIT_OPEN)
+    if (tacit_store(tacit_load(record, sizeof record).session, stored, sizeof stored) != 0 ||
+        std::memcmp(record, stored, sizeof record) != 0)
         return 1;
-    const tacit_kinds kinds = tacit_permitted_kinds(record, sizeof record);
-    if (kinds.kinds != TACIT_KIND_SET(TACIT_KIND_GENERALIZED_PWID))
-        return 1;
-    return std::strcmp(tacit_outcome_text(answer.outcome), "done") == 0 ? 0 : 1;
+    return one_row(record, sizeof record) && one_session(record, sizeof record) ? 0 : 1;
 }

@@ -21,13 +21,26 @@ static void expect_texts(const char *(*text)(uint32_t), uint32_t first, uint32_t
 
 static void texts(void)
 {
-    expect_texts(tacit_refusal_text, 0, 10);
-    expect_texts(tacit_outcome_text, 0, 2);
+    expect_texts(tacit_refusal_text, 0, 12);
+    expect_texts(tacit_outcome_text, 0, 3);
     expect_texts(tacit_state_text, 0, 3);
     expect_texts(tacit_kind_text, 0, 9);
     expect_texts(tacit_application_text, 1, 13);
+    CHECK(strcmp(tacit_refusal_text(12), "limit over 64") == 0);
+    CHECK(strcmp(tacit_outcome_text(3), "at the limit") == 0);
     CHECK(strcmp(tacit_kind_text(8), "Generalized PWid") == 0);
     CHECK(strcmp(tacit_application_text(4), "LDPv4 Remote LFA") == 0);
+}
+
+/* The numbers of the rules, by the header's names. */
+static void names(void)
+{
+    CHECK(TACIT_REFUSED_ROW == 11 && TACIT_REFUSED_LIMIT == 12);
+    CHECK(TACIT_AT_LIMIT == 3);
+    CHECK(TACIT_ROW_MOST == 64 && TACIT_LIMIT_MOST == 64 && TACIT_APPLICATIONS == 13);
+    CHECK(TACIT_EVENT_INITIALIZATION == 0 && TACIT_EVENT_CAPABILITY == 1);
+    CHECK(TACIT_EVENT_LOCAL_CHANGE == 2 && TACIT_EVENT_MISMATCH == 3);
+    CHECK(TACIT_EVENT_HELLO == 4 && TACIT_EVENT_CLOSED == 5);
 }
 
 static void states(void)
@@ -37,10 +50,12 @@ static void states(void)
     record.octets[4] = 4;
     CHECK(state(&record) == TACIT_NO_STATE);
     CHECK(strcmp(tacit_state_text(state(&record)), "unknown") == 0);
+    CHECK(strcmp(tacit_state_text(load(&record).session.state), "unknown") == 0);
 }
 
 void words(void)
 {
     test("texts for a log", texts);
+    test("numbers of rows by their names", names);
     test("the state of a record, for a log", states);
 }

@@ -82,6 +82,21 @@ static inline uint8_t *put16(uint8_t *to, uint16_t number)
     return to + 2;
 }
 
+static inline uint8_t *put32(uint8_t *to, uint32_t number)
+{
+    return put16(put16(to, (uint16_t)number), (uint16_t)(number >> 16));
+}
+
+static inline uint16_t get16(const uint8_t *from)
+{
+    return (uint16_t)(from[0] | from[1] << 8);
+}
+
+static inline uint32_t get32(const uint8_t *from)
+{
+    return get16(from) | (uint32_t)get16(from + 2) << 16;
+}
+
 static inline void put_answer(uint8_t *said, struct tacit_answer answer)
 {
     said[0] = answer.refusal;

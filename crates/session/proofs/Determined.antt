@@ -11,6 +11,7 @@ use Rattle.session.proofs.Session.retry_interval.Reads as retry-interva
 use Rattle.session.proofs.Session.initialization.Reads as initialization
 use Rattle.session.proofs.Session.limited_initialization.Reads as limited-initialization
 use Rattle.session.proofs.Session.used.Reads as used
+use Rattle.session.proofs.Session.refused.Reads as refused
 use Rattle.session.proofs.Session.capability.Reads as capability
 use Rattle.session.proofs.Session.local_change.Reads as local-change
 use Rattle.session.proofs.Session.mismatch.Reads as mismatch
@@ -40,6 +41,9 @@ limited-initialization-determined κs = by-equation _
 
 pub used-determined : Determined (used.Post tt)
 used-determined = by-equation _
+
+pub refused-determined : Determined (refused.Post tt)
+refused-determined = by-equation _
 
 pub capability-determined : (κs : _) → Determined (capability.Post κs)
 capability-determined κs = by-equation _

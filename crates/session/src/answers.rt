@@ -8,7 +8,7 @@ use area::Reading;
 
 impl Session {
     // Refused with a number: the session stays.
-    pub(crate) fn refused(self, n: u8) -> After
+    pub fn refused(self, n: u8) -> After
         ensures { λ r. ⌜ r ≡ refused self n ⌝ }
     {
         After {

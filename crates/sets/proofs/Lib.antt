@@ -2,5 +2,6 @@ pub mod Members
 pub mod Bounds
 pub mod Subsets
 pub mod Switches
+pub mod Chosen
 pub mod Flags
 pub mod Determined

@@ -1,6 +1,6 @@
 -- A set of small numbers, as the binary digits of a number: k is in s exactly when digit k of s is 1. One definition for every width, for
 -- applications, kinds and Apps alike. Assumes nothing.
-use Prim.Native.Nat.{ℕ, _-_, _/_, _%_, _^_}
+use Prim.Native.Nat.{ℕ, zero, suc, _+_, _-_, _/_, _%_, _^_}
 use mathlib.Core.Path.{_≡_}
 use mathlib.Core.Bool.{Bool, true, _&&_}
 use lib.Bits.{bitAnd, bitOr, bitXor}
@@ -57,3 +57,8 @@ numbered w n = leb 1 n && leb n w
 -- s with n switched on or off; a number that is none of them changes nothing
 unfoldable pub switched : ℕ → ℕ → ℕ → Bool → ℕ
 switched w s n on = pick (numbered w n) (pick on (with s (n - 1)) (without s (n - 1))) s
+
+-- of the numbers 1 to k, those for which the test holds
+unfoldable pub chosen : ℕ → (ℕ → Bool) → ℕ → ℕ
+chosen w test zero = 0
+chosen w test (suc k) = switched w (chosen w test k) (k + 1) (test (k + 1))

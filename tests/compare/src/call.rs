@@ -1,10 +1,14 @@
 //! One call with all that it is given, and all that can be seen of it.
 
 use crate::library::{Library, Lost};
-use second::{Answer, Kinds, Permission, Reading, Retry};
-use std::fmt::{self, Write};
+use second::{
+    Answer, Count, Event, Fields, Kinds, Limited, Limits, Loaded, Permission, Reading, Retry,
+};
 use std::panic::{self, AssertUnwindSafe};
 use std::sync::atomic::{AtomicBool, Ordering};
+
+/// Octets of the fields of a session.
+pub const FIELDS: usize = 17;
 
 #[derive(Clone, Debug, PartialEq, Eq)]
 pub enum Ask {
@@ -39,13 +43,47 @@ pub enum Ask {
     PermittedKinds,
     RetryInterval,
     Sound,
+    Load,
+    Store {
+        session: Fields,
+    },
+    NoLimits,
+    SetLimit {
+        limits: Limits,
+        ta_id: u32,
+        limit: u32,
+    },
+    SessionKinds {
+        session: Fields,
+    },
+    SessionRetry {
+        session: Fields,
+    },
+    RowCount {
+        ta_id: u32,
+    },
+    RowEvent(RowEvent),
 }
 
-/// What is asked, and the record (or the room for one) that it is asked of.
-/// `Read` has no record; it stays empty there.
+/// An event of one session of a row.
+#[derive(Clone, Debug, PartialEq, Eq)]
+pub struct RowEvent {
+    /// Through the call that has the event's name, which takes only what the
+    /// event needs.
+    pub by_name: bool,
+    pub at: u64,
+    pub event: Event,
+    pub limits: Limits,
+    pub area: Vec<u8>,
+    pub room: Vec<u8>,
+}
+
+/// What is asked, and the record (or the room for one) or the row that it is
+/// asked of. Where it is asked of neither, they are empty.
 #[derive(Clone, Debug, PartialEq, Eq)]
 pub struct Call {
     pub record: Vec<u8>,
+    pub row: Vec<Fields>,
     pub ask: Ask,
 }
 
@@ -53,12 +91,17 @@ pub struct Call {
 #[derive(Clone, Debug, PartialEq, Eq)]
 pub enum Said {
     Reading(Reading),
-    Created(u8),
+    /// A refusal number and nothing else.
+    Refusal(u8),
     Answer(Answer),
     Permission(Permission),
     Kinds(Kinds),
     Retry(Retry),
     Sound(u8),
+    Loaded(Loaded),
+    Limits(Limits),
+    Limited(Limited),
+    Count(Count),
     /// Nothing: the second implementation broke off.
     Panicked,
     /// Nothing: the library broke off or did not return.
@@ -70,17 +113,11 @@ pub enum Said {
 pub struct Seen {
     pub said: Said,
     pub record: Vec<u8>,
+    pub row: Vec<Fields>,
     pub room: Vec<u8>,
-    /// What went wrong beside the answer: bits of [`FAULTS`].
+    /// What went wrong beside the answer: bits of `show::FAULTS`.
     pub faults: u8,
 }
-
-/// What can go wrong beside an answer, by its bit in `calls.c`.
-const FAULTS: [&str; 3] = [
-    "octets changed outside the buffers",
-    "octets changed that are only to be read",
-    "the same call, made again with its buffers elsewhere, came to something else",
-];
 
 static ASKING_SECOND: AtomicBool = AtomicBool::new(false);
 
@@ -95,9 +132,73 @@ pub fn quieten_second() {
     }));
 }
 
-impl Call {
+/// The names of events by their numbers, in a row.
+const ROW_EVENTS: [&str; 6] = [
+    "row_initialization",
+    "row_capability",
+    "row_local_change",
+    "row_mismatch",
+    "row_hello",
+    "row_closed",
+];
+
+impl RowEvent {
     pub fn name(&self) -> &'static str {
-        match self.ask {
+        if self.by_name {
+            ROW_EVENTS[self.event.which as usize]
+        } else {
+            "row_event"
+        }
+    }
+
+    fn second_says(&self, row: &mut [Fields], room: &mut [u8]) -> Answer {
+        let Event {
+            which,
+            ta_id,
+            on,
+            number,
+        } = self.event;
+        // A row number has the width of the library's processor.
+        let at = usize::try_from(self.at).unwrap_or(usize::MAX);
+        if !self.by_name {
+            return second::row_event(row, at, self.event, self.limits, &self.area, room);
+        }
+        match which {
+            0 => second::row_initialization(row, at, self.limits, &self.area),
+            1 => second::row_capability(row, at, &self.area),
+            2 => second::row_local_change(row, at, ta_id, on != 0, room),
+            3 => second::row_mismatch(row, at),
+            4 => second::row_hello(row, at, number),
+            _ => second::row_closed(row, at),
+        }
+    }
+}
+
+impl Call {
+    /// A call on a record, or on the room for one.
+    pub fn on_record(record: Vec<u8>, ask: Ask) -> Call {
+        Call {
+            record,
+            row: Vec::new(),
+            ask,
+        }
+    }
+
+    pub fn on_row(row: Vec<Fields>, ask: Ask) -> Call {
+        Call {
+            record: Vec::new(),
+            row,
+            ask,
+        }
+    }
+
+    /// A call that is given neither.
+    pub fn alone(ask: Ask) -> Call {
+        Call::on_record(Vec::new(), ask)
+    }
+
+    pub fn name(&self) -> &'static str {
+        match &self.ask {
             Ask::Read { .. } => "read",
             Ask::Create { .. } => "create",
             Ask::Initialization { .. } => "initialization",
@@ -110,12 +211,21 @@ impl Call {
             Ask::PermittedKinds => "permitted_kinds",
             Ask::RetryInterval => "retry_interval",
             Ask::Sound => "sound",
+            Ask::Load => "load",
+            Ask::Store { .. } => "store",
+            Ask::NoLimits => "no_limits",
+            Ask::SetLimit { .. } => "set_limit",
+            Ask::SessionKinds { .. } => "session_kinds",
+            Ask::SessionRetry { .. } => "session_retry",
+            Ask::RowCount { .. } => "row_count",
+            Ask::RowEvent(event) => event.name(),
         }
     }
 
     pub fn area(&self) -> &[u8] {
         match &self.ask {
             Ask::Read { area } | Ask::Initialization { area } | Ask::Capability { area } => area,
+            Ask::RowEvent(event) => &event.area,
             _ => &[],
         }
     }
@@ -123,30 +233,38 @@ impl Call {
     pub fn room(&self) -> &[u8] {
         match &self.ask {
             Ask::LocalChange { room, .. } => room,
+            Ask::RowEvent(event) => &event.room,
             _ => &[],
         }
+    }
+
+    /// About how many octets are sent to the library.
+    pub fn octets(&self) -> usize {
+        self.record.len() + FIELDS * self.row.len() + self.area().len() + self.room().len()
     }
 
     /// Asks the second implementation. If it should break off, that too is
     /// something to see.
     pub fn ask_second(&self) -> Seen {
         let mut record = self.record.clone();
+        let mut row = self.row.clone();
         let mut room = self.room().to_vec();
         ASKING_SECOND.store(true, Ordering::Relaxed);
         let said = panic::catch_unwind(AssertUnwindSafe(|| {
-            self.second_says(&mut record, &mut room)
+            self.second_says(&mut record, &mut row, &mut room)
         }))
         .unwrap_or(Said::Panicked);
         ASKING_SECOND.store(false, Ordering::Relaxed);
         Seen {
             said,
             record,
+            row,
             room,
             faults: 0,
         }
     }
 
-    fn second_says(&self, record: &mut [u8], room: &mut [u8]) -> Said {
+    fn second_says(&self, record: &mut [u8], row: &mut [Fields], room: &mut [u8]) -> Said {
         match &self.ask {
             Ask::Read { area } => Said::Reading(second::read(area)),
             &Ask::Create {
@@ -154,7 +272,7 @@ impl Call {
                 protected,
                 enabled,
                 first,
-            } => Said::Created(second::create(
+            } => Said::Refusal(second::create(
                 record, initiating, active, uses_tac, drops, protected, enabled, first,
             )),
             Ask::Initialization { area } => Said::Answer(second::initialization(record, area)),
@@ -169,138 +287,23 @@ impl Call {
             Ask::PermittedKinds => Said::Kinds(second::permitted_kinds(record)),
             Ask::RetryInterval => Said::Retry(second::retry_interval(record)),
             Ask::Sound => Said::Sound(second::sound(record).into()),
+            Ask::Load => Said::Loaded(second::load(record)),
+            &Ask::Store { session } => Said::Refusal(second::store(session, record)),
+            Ask::NoLimits => Said::Limits(second::no_limits()),
+            &Ask::SetLimit {
+                limits,
+                ta_id,
+                limit,
+            } => Said::Limited(second::set_limit(limits, ta_id, limit)),
+            &Ask::SessionKinds { session } => Said::Kinds(second::session_kinds(session)),
+            &Ask::SessionRetry { session } => Said::Retry(second::session_retry(session)),
+            &Ask::RowCount { ta_id } => Said::Count(second::row_count(row, ta_id)),
+            Ask::RowEvent(event) => Said::Answer(event.second_says(row, room)),
         }
     }
 
     /// Do the two differ in anything?
     pub fn differs(&self, library: &mut Library) -> bool {
         self.ask_second() != library.ask(self)
-    }
-}
-
-/// Octets in hexadecimal. A long run of one octet is written once, with how
-/// often it stands there: `[00 x 4092]`.
-pub fn hex(octets: &[u8]) -> String {
-    if octets.is_empty() {
-        return "(none)".to_string();
-    }
-    let mut text = String::new();
-    for run in octets.chunk_by(|one, next| one == next) {
-        if run.len() >= 40 {
-            write!(text, "[{:02X} x {}]", run[0], run.len()).unwrap();
-        } else {
-            for octet in run {
-                write!(text, "{octet:02X}").unwrap();
-            }
-        }
-    }
-    text
-}
-
-impl fmt::Display for Call {
-    fn fmt(&self, out: &mut fmt::Formatter) -> fmt::Result {
-        writeln!(out, "  call     {}", self.name())?;
-        if !matches!(self.ask, Ask::Read { .. }) {
-            let length = self.record.len();
-            writeln!(out, "  record   {} ({length} octets)", hex(&self.record))?;
-        }
-        match &self.ask {
-            Ask::Read { area } | Ask::Initialization { area } | Ask::Capability { area } => {
-                writeln!(out, "  area     {} ({} octets)", hex(area), area.len())
-            }
-            Ask::Create {
-                roles: [initiating, active, uses_tac, drops],
-                protected,
-                enabled,
-                first,
-            } => writeln!(
-                out,
-                "  given    initiating {initiating}, active {active}, uses_tac {uses_tac}, \
-                 drops {drops}, protected {protected:08X}, enabled {enabled:08X}, \
-                 first number {first:08X}"
-            ),
-            Ask::LocalChange { ta_id, on, room } => {
-                writeln!(out, "  given    ta_id {ta_id} ({ta_id:08X}), on {on}")?;
-                writeln!(out, "  room     {} ({} octets)", hex(room), room.len())
-            }
-            Ask::Hello { number } => {
-                writeln!(out, "  given    number {number} ({number:08X})")
-            }
-            Ask::Permitted { kind } => writeln!(out, "  given    kind {kind} ({kind:08X})"),
-            Ask::Mismatch | Ask::Closed | Ask::PermittedKinds | Ask::RetryInterval | Ask::Sound => {
-                Ok(())
-            }
-        }
-    }
-}
-
-impl fmt::Display for Said {
-    fn fmt(&self, out: &mut fmt::Formatter) -> fmt::Result {
-        match self {
-            Said::Reading(reading) => write!(
-                out,
-                "refusal {}, dynamic {}, tac {}+{}, sac {}+{}",
-                reading.refusal,
-                reading.dynamic,
-                reading.tac.start,
-                reading.tac.length,
-                reading.sac.start,
-                reading.sac.length
-            ),
-            Said::Created(refusal) => write!(out, "refusal {refusal}"),
-            Said::Answer(answer) => write!(
-                out,
-                "refusal {}, outcome {}, lost {:04X}, gained {:04X}, written {}",
-                answer.refusal, answer.outcome, answer.lost, answer.gained, answer.written
-            ),
-            Said::Permission(answer) => write!(
-                out,
-                "refusal {}, permitted {}",
-                answer.refusal, answer.permitted
-            ),
-            Said::Kinds(answer) => {
-                write!(
-                    out,
-                    "refusal {}, kinds {:04X}",
-                    answer.refusal, answer.kinds
-                )
-            }
-            Said::Retry(answer) => write!(
-                out,
-                "refusal {}, interval {}",
-                answer.refusal, answer.interval
-            ),
-            Said::Sound(sound) => write!(out, "sound {sound}"),
-            Said::Panicked => out.write_str("broke off"),
-            Said::Lost(Lost(why)) => out.write_str(why),
-        }
-    }
-}
-
-impl Seen {
-    /// The lines that show this, with what the call began with left out where
-    /// it was left alone.
-    pub fn show(&self, who: &str, call: &Call) -> String {
-        let mut text = format!("  {who:<8} {}\n", self.said);
-        if let Said::Lost(_) = self.said {
-            return text;
-        }
-        let mut line = |what: &str, octets: &[u8], before: &[u8]| {
-            if octets == before {
-                if !before.is_empty() {
-                    writeln!(text, "           {what} as found").unwrap();
-                }
-            } else {
-                writeln!(text, "           {what} {}", hex(octets)).unwrap();
-            }
-        };
-        line("record", &self.record, &call.record);
-        line("room  ", &self.room, call.room());
-        for (bit, fault) in FAULTS.iter().enumerate() {
-            if self.faults >> bit & 1 == 1 {
-                writeln!(text, "           {fault}").unwrap();
-            }
-        }
-        text
     }
 }

@@ -2,8 +2,8 @@
 //! in batches; the program checks for itself that nothing is written outside the
 //! buffers that it lends.
 
-use crate::call::{Ask, Call, Said, Seen};
-use second::{Answer, Kinds, Part, Permission, Reading, Retry};
+use crate::call::{Call, Said, Seen};
+use crate::wire;
 use std::io::{self, Read, Write};
 use std::path::PathBuf;
 use std::process::{Child, ChildStdin, Command, Stdio};
@@ -61,6 +61,7 @@ impl Library {
             Err(lost) => Seen {
                 said: Said::Lost(lost),
                 record: call.record.clone(),
+                row: call.row.clone(),
                 room: call.room().to_vec(),
                 faults: 0,
             },
@@ -72,7 +73,7 @@ impl Library {
     pub fn send(&mut self, calls: &[Call]) {
         let mut batch = vec![0; 4];
         for call in calls {
-            put_call(&mut batch, call, self.empty_is_null);
+            wire::put_call(&mut batch, call, self.empty_is_null);
         }
         let length = (batch.len() - 4) as u32;
         batch[..4].copy_from_slice(&length.to_le_bytes());
@@ -87,7 +88,7 @@ impl Library {
 
     fn receive_within(&mut self, calls: &[Call], patience: Duration) -> Result<Vec<Seen>, Lost> {
         let why = match self.running.answers.recv_timeout(patience) {
-            Ok(batch) => match seen(calls, &batch) {
+            Ok(batch) => match wire::seen(calls, &batch) {
                 Some(seen) => return Ok(seen),
                 None => "answers that cannot be read".to_string(),
             },
@@ -148,109 +149,4 @@ fn read_batch(from: &mut impl Read) -> io::Result<Vec<u8>> {
     let mut batch = vec![0; u32::from_le_bytes(length) as usize];
     from.read_exact(&mut batch)?;
     Ok(batch)
-}
-
-/// A call as `calls.c` takes it.
-fn put_call(batch: &mut Vec<u8>, call: &Call, empty_is_null: bool) {
-    let (which, bits, numbers) = match call.ask {
-        Ask::Read { .. } => (0, 0, [0; 3]),
-        Ask::Create {
-            roles,
-            protected,
-            enabled,
-            first,
-        } => {
-            let bits = (0..).zip(roles).map(|(bit, role)| u8::from(role) << bit);
-            (1, bits.sum(), [protected, enabled, first])
-        }
-        Ask::Initialization { .. } => (2, 0, [0; 3]),
-        Ask::Capability { .. } => (3, 0, [0; 3]),
-        Ask::LocalChange { ta_id, on, .. } => (4, u8::from(on), [ta_id, 0, 0]),
-        Ask::Mismatch => (5, 0, [0; 3]),
-        Ask::Hello { number } => (6, 0, [number, 0, 0]),
-        Ask::Closed => (7, 0, [0; 3]),
-        Ask::Permitted { kind } => (8, 0, [kind, 0, 0]),
-        Ask::PermittedKinds => (9, 0, [0; 3]),
-        Ask::RetryInterval => (10, 0, [0; 3]),
-        Ask::Sound => (11, 0, [0; 3]),
-    };
-    batch.push(which);
-    batch.push(bits | u8::from(empty_is_null) << 7);
-    for number in numbers {
-        batch.extend(number.to_le_bytes());
-    }
-    for buffer in [&call.record, call.area(), call.room()] {
-        batch.extend((buffer.len() as u32).to_le_bytes());
-    }
-    for buffer in [&call.record, call.area(), call.room()] {
-        batch.extend(buffer);
-    }
-}
-
-/// What a batch of answers says; nothing if it does not fit the calls.
-fn seen(calls: &[Call], mut batch: &[u8]) -> Option<Vec<Seen>> {
-    let mut take = |length: usize| {
-        let (taken, left) = batch.split_at_checked(length)?;
-        batch = left;
-        Some(taken)
-    };
-    let mut all = Vec::with_capacity(calls.len());
-    for call in calls {
-        let faults = take(1)?[0];
-        let said = said(&call.ask, take(10)?.try_into().unwrap());
-        let record = take(call.record.len())?.to_vec();
-        let room = take(call.room().len())?.to_vec();
-        all.push(Seen {
-            said,
-            record,
-            room,
-            faults,
-        });
-    }
-    batch.is_empty().then_some(all)
-}
-
-fn said(ask: &Ask, octets: &[u8; 10]) -> Said {
-    let pair = |at: usize| u16::from_le_bytes([octets[at], octets[at + 1]]);
-    let refusal = octets[0];
-    match ask {
-        Ask::Read { .. } => Said::Reading(Reading {
-            refusal,
-            dynamic: octets[1],
-            tac: Part {
-                start: pair(2),
-                length: pair(4),
-            },
-            sac: Part {
-                start: pair(6),
-                length: pair(8),
-            },
-        }),
-        Ask::Create { .. } => Said::Created(refusal),
-        Ask::Initialization { .. }
-        | Ask::Capability { .. }
-        | Ask::LocalChange { .. }
-        | Ask::Mismatch
-        | Ask::Hello { .. }
-        | Ask::Closed => Said::Answer(Answer {
-            refusal,
-            outcome: octets[1],
-            lost: pair(2),
-            gained: pair(4),
-            written: pair(6),
-        }),
-        Ask::Permitted { .. } => Said::Permission(Permission {
-            refusal,
-            permitted: octets[1],
-        }),
-        Ask::PermittedKinds => Said::Kinds(Kinds {
-            refusal,
-            kinds: pair(2),
-        }),
-        Ask::RetryInterval => Said::Retry(Retry {
-            refusal,
-            interval: pair(2),
-        }),
-        Ask::Sound => Said::Sound(octets[0]),
-    }
 }

@@ -1,6 +1,7 @@
 //! Stored records, sound and not.
 
 use crate::numbers::Numbers;
+use second::Fields;
 
 pub const LENGTH: usize = 22;
 
@@ -9,37 +10,39 @@ pub const OPEN: u8 = 1;
 pub const HELD: u8 = 2;
 pub const GONE: u8 = 3;
 
-const INITIATING: u8 = 1 << 0;
-const ACTIVE: u8 = 1 << 1;
-const USES_TAC: u8 = 1 << 2;
-const DROPS: u8 = 1 << 3;
+pub const INITIATING: u8 = 1 << 0;
+pub const ACTIVE: u8 = 1 << 1;
+pub const USES_TAC: u8 = 1 << 2;
+pub const DROPS: u8 = 1 << 3;
 pub const IN_FORCE: u8 = 1 << 4;
 const DYNAMIC: u8 = 1 << 5;
 const HELLO: u8 = 1 << 6;
 
-/// The fields of a record, whether or not they go together.
-#[derive(Clone, Copy)]
-struct Fields {
-    state: u8,
-    flags: u8,
-    enabled: u16,
-    listed: u16,
-    protected: u16,
-    disabled: u8,
-    hello: u32,
-    next: u32,
+/// The record with these fields, whether or not they go together.
+pub fn stored(session: &Fields) -> Vec<u8> {
+    let mut octets = vec![20, 0, 1, 0, session.state, session.flags];
+    octets.extend(session.enabled.to_le_bytes());
+    octets.extend(session.listed.to_le_bytes());
+    octets.extend(session.protects.to_le_bytes());
+    octets.extend([session.disabled, 0]);
+    octets.extend(session.hello.to_le_bytes());
+    octets.extend(session.next.to_le_bytes());
+    octets
 }
 
-impl Fields {
-    fn stored(self) -> Vec<u8> {
-        let mut octets = vec![20, 0, 1, 0, self.state, self.flags];
-        octets.extend(self.enabled.to_le_bytes());
-        octets.extend(self.listed.to_le_bytes());
-        octets.extend(self.protected.to_le_bytes());
-        octets.extend([self.disabled, 0]);
-        octets.extend(self.hello.to_le_bytes());
-        octets.extend(self.next.to_le_bytes());
-        octets
+/// The fields of a record of the right length, whatever they are.
+pub fn fields(record: &[u8]) -> Fields {
+    let pair = |at: usize| u16::from_le_bytes([record[at], record[at + 1]]);
+    let number = |at: usize| u32::from(pair(at)) | u32::from(pair(at + 2)) << 16;
+    Fields {
+        state: record[4],
+        flags: record[5],
+        disabled: record[12],
+        enabled: pair(6),
+        listed: pair(8),
+        protects: pair(10),
+        hello: number(14),
+        next: number(18),
     }
 }
 
@@ -91,6 +94,10 @@ pub fn word(numbers: &mut Numbers) -> u32 {
 
 /// A record that is sound, of any session.
 pub fn sound(numbers: &mut Numbers) -> Vec<u8> {
+    stored(&sound_session(numbers))
+}
+
+pub fn sound_session(numbers: &mut Numbers) -> Fields {
     let mut flags = numbers.octet() & (INITIATING | ACTIVE | USES_TAC | DROPS);
     if numbers.flag() {
         flags |= USES_TAC;
@@ -108,7 +115,7 @@ pub fn sound(numbers: &mut Numbers) -> Vec<u8> {
         flags,
         enabled: applications(numbers),
         listed: 0,
-        protected: kinds(numbers),
+        protects: kinds(numbers),
         disabled: 0,
         hello: 0,
         next: word(numbers),
@@ -136,13 +143,13 @@ pub fn sound(numbers: &mut Numbers) -> Vec<u8> {
         fields.flags |= HELLO;
         fields.hello = word(numbers);
     }
-    fields.stored()
+    fields
 }
 
 /// A record whose fields are each possible but need not go together.
 fn unruly(numbers: &mut Numbers) -> Vec<u8> {
     let sparse = |numbers: &mut Numbers, value: u32| if numbers.flag() { value } else { 0 };
-    Fields {
+    stored(&Fields {
         state: numbers.below(4) as u8,
         flags: numbers.octet() & 0x7F,
         enabled: applications(numbers),
@@ -150,7 +157,7 @@ fn unruly(numbers: &mut Numbers) -> Vec<u8> {
             let listed = applications(numbers).into();
             sparse(numbers, listed) as u16
         },
-        protected: kinds(numbers),
+        protects: kinds(numbers),
         disabled: {
             let disabled = u32::from(numbers.octet() & 0x0F);
             sparse(numbers, disabled) as u8
@@ -160,8 +167,7 @@ fn unruly(numbers: &mut Numbers) -> Vec<u8> {
             sparse(numbers, hello)
         },
         next: word(numbers),
-    }
-    .stored()
+    })
 }
 
 /// Held or Gone, in any role, whether or not the role goes there.
@@ -171,7 +177,7 @@ fn by_role(numbers: &mut Numbers) -> Vec<u8> {
         flags: numbers.octet() & (INITIATING | ACTIVE | USES_TAC | DROPS),
         enabled: applications(numbers),
         listed: 0,
-        protected: kinds(numbers),
+        protects: kinds(numbers),
         disabled: 0,
         hello: 0,
         next: word(numbers),
@@ -180,7 +186,7 @@ fn by_role(numbers: &mut Numbers) -> Vec<u8> {
         fields.flags |= HELLO;
         fields.hello = word(numbers);
     }
-    fields.stored()
+    stored(&fields)
 }
 
 /// A sound record with one rule between its fields broken.
@@ -197,6 +203,22 @@ fn one_rule_broken(numbers: &mut Numbers) -> Vec<u8> {
         _ => octets[numbers.one_of(&[0, 1, 2, 3, 13])] ^= 1 << numbers.below(8),
     }
     octets
+}
+
+/// The fields of a record with something wrong in them, most of the time.
+pub fn damaged_session(numbers: &mut Numbers) -> Fields {
+    let record = match numbers.weighted(&[50, 15, 20, 10, 5]) {
+        0 => one_rule_broken(numbers),
+        1 => unruly(numbers),
+        2 => {
+            let mut octets = sound(numbers);
+            octets[numbers.between(4, 12)] ^= 1 << numbers.below(8);
+            octets
+        }
+        3 => by_role(numbers),
+        _ => numbers.octets(LENGTH),
+    };
+    fields(&record)
 }
 
 /// A record of any sort.
@@ -234,28 +256,15 @@ pub fn any_length(numbers: &mut Numbers) -> usize {
     }
 }
 
-/// The applications that matter to the session of this record.
-pub fn hint(record: &[u8]) -> u16 {
-    match record {
-        [_, _, _, _, _, _, e0, e1, l0, l1, ..] => {
-            (u16::from_le_bytes([*e0, *e1]) | u16::from_le_bytes([*l0, *l1])) & 0x1FFF
-        }
-        _ => 0,
+/// The fields of any record; none of a record that is too short.
+pub fn fields_if_any(record: &[u8]) -> Fields {
+    match record.get(..LENGTH) {
+        Some(record) => fields(record),
+        None => Fields::default(),
     }
 }
 
-/// The enabled applications of a record, if it is long enough.
-pub fn enabled(record: &[u8]) -> u16 {
-    match record.get(6..8) {
-        Some(octets) => u16::from_le_bytes(octets.try_into().unwrap()),
-        None => 0,
-    }
-}
-
-/// The Hello number of a record, if it is long enough.
-pub fn hello(record: &[u8]) -> u32 {
-    match record.get(14..18) {
-        Some(octets) => u32::from_le_bytes(octets.try_into().unwrap()),
-        None => 0,
-    }
+/// The applications that matter to a session.
+pub fn hint(session: &Fields) -> u16 {
+    (session.enabled | session.listed) & 0x1FFF
 }

@@ -11,6 +11,7 @@ pub(crate) enum Outcome {
     Done,
     Unchanged,
     Mismatch,
+    AtLimit,
 }
 
 /// The outcome of an event and how many octets it wrote.
@@ -30,7 +31,12 @@ impl From<Outcome> for Effect {
 }
 
 impl Session {
-    pub fn initialization(&mut self, area: &[u8]) -> Result<Effect, Refusal> {
+    /// `below` are the applications that are used less than their limits allow.
+    pub fn initialization(
+        &mut self,
+        area: &[u8],
+        below: ApplicationSet,
+    ) -> Result<Effect, Refusal> {
         if self.state != State::Ready {
             return Err(Refusal::WrongState);
         }
@@ -46,7 +52,12 @@ impl Session {
                 .heeded(found.tac)
                 .map(|tac| ApplicationSet::announced(tac.of(area))),
         };
-        Ok(self.settle().into())
+        let mut outcome = self.settle();
+        if outcome == Outcome::Done && self.at_limit(below) {
+            self.mismatch();
+            outcome = Outcome::AtLimit;
+        }
+        Ok(outcome.into())
     }
 
     pub fn capability(&mut self, area: &[u8]) -> Result<Effect, Refusal> {

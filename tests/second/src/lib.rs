@@ -1,9 +1,10 @@
 //! Negotiation of targeted LDP applications (RFC 8223) together with state
-//! advertisement control (RFC 7473), for one session held in a stored record.
+//! advertisement control (RFC 7473), for one session held in a stored record and
+//! for a row of sessions with limits.
 //!
 //! Every public function works on plain octets and numbers and can be called
-//! with any of them. A session travels as its 22-octet record; inside, it is
-//! the decoded [`session::Session`].
+//! with any of them. A session travels as its 22-octet record, or in a row as
+//! its [`Fields`]; inside, it is the decoded [`session::Session`].
 //!
 //! | file         | idea                                                   |
 //! |--------------|--------------------------------------------------------|
@@ -14,16 +15,29 @@
 //! | `events.rs`  | what happens to a session                              |
 //! | `record.rs`  | the stored form and when it is sound                   |
 //! | `message.rs` | the message written for a local change                 |
+//! | `fields.rs`  | a session as a row holds it, loaded and stored         |
+//! | `limits.rs`  | how many sessions may use each application             |
+//! | `row.rs`     | how many sessions do, and the events of one of them    |
 
 #![forbid(unsafe_code)]
 
 mod area;
 mod events;
+mod fields;
 mod kinds;
+mod limits;
 mod lists;
 mod message;
 mod record;
+mod row;
 mod session;
+
+pub use fields::{load, session_kinds, session_retry, store, Fields, Loaded};
+pub use limits::{no_limits, set_limit, Limited, Limits};
+pub use row::{
+    row_capability, row_closed, row_count, row_event, row_hello, row_initialization,
+    row_local_change, row_mismatch, Count, Event,
+};
 
 use events::{Effect, Outcome};
 use kinds::{Kind, KindSet};
@@ -99,11 +113,20 @@ pub(crate) enum Refusal {
     NoRoom = 8,
     PeerNotDynamic = 9,
     NotSound = 10,
+    OutsideRow = 11,
+    LimitTooHigh = 12,
 }
 
 impl Refusal {
     fn number(self) -> u8 {
         self as u8
+    }
+
+    fn answer(self) -> Answer {
+        Answer {
+            refusal: self.number(),
+            ..Answer::default()
+        }
     }
 }
 
@@ -159,7 +182,9 @@ pub fn create(
 
 /// An Initialization message arrived with these optional parameters.
 pub fn initialization(record: &mut [u8], area: &[u8]) -> Answer {
-    happen(record, |session| session.initialization(area))
+    happen(record, |session| {
+        session.initialization(area, ApplicationSet::ALL)
+    })
 }
 
 /// A Capability message arrived with these parameters.
@@ -245,27 +270,33 @@ fn happen(
     event: impl FnOnce(&mut Session) -> Result<Effect, Refusal>,
 ) -> Answer {
     let result = record::decode(record).and_then(|mut session| {
-        let before = session.permitted();
-        let effect = event(&mut session)?;
-        Ok((session, before, effect))
+        let answer = undergo(&mut session, event)?;
+        Ok((session, answer))
     });
     match result {
-        Ok((session, before, effect)) => {
-            let after = session.permitted();
+        Ok((session, answer)) => {
             record.copy_from_slice(&record::encode(&session));
-            Answer {
-                refusal: 0,
-                outcome: outcome_number(effect.outcome),
-                lost: before.without(after).bits(),
-                gained: after.without(before).bits(),
-                written: effect.written,
-            }
+            answer
         }
-        Err(refusal) => Answer {
-            refusal: refusal.number(),
-            ..Answer::default()
-        },
+        Err(refusal) => refusal.answer(),
     }
+}
+
+/// Lets the event happen to a session and tells what it did.
+fn undergo(
+    session: &mut Session,
+    event: impl FnOnce(&mut Session) -> Result<Effect, Refusal>,
+) -> Result<Answer, Refusal> {
+    let before = session.permitted();
+    let effect = event(session)?;
+    let after = session.permitted();
+    Ok(Answer {
+        refusal: 0,
+        outcome: outcome_number(effect.outcome),
+        lost: before.without(after).bits(),
+        gained: after.without(before).bits(),
+        written: effect.written,
+    })
 }
 
 fn outcome_number(outcome: Outcome) -> u8 {
@@ -273,5 +304,6 @@ fn outcome_number(outcome: Outcome) -> u8 {
         Outcome::Done => 0,
         Outcome::Unchanged => 1,
         Outcome::Mismatch => 2,
+        Outcome::AtLimit => 3,
     }
 }

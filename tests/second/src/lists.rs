@@ -9,6 +9,7 @@ pub(crate) struct ApplicationSet(u16);
 
 impl ApplicationSet {
     pub const EMPTY: ApplicationSet = ApplicationSet(0);
+    pub const ALL: ApplicationSet = ApplicationSet(ApplicationSet::KNOWN as u16);
     const KNOWN: u32 = (1 << Application::ALL.len()) - 1;
 
     /// None if a bit stands for no application.

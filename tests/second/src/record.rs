@@ -21,8 +21,8 @@ use crate::Refusal;
 
 pub(crate) const LENGTH: usize = 22;
 
-const REST: u16 = 20;
-const KIND: u16 = 1;
+pub(crate) const REST: u16 = 20;
+pub(crate) const KIND: u16 = 1;
 
 const INITIATING: u8 = 1 << 0;
 const ACTIVE: u8 = 1 << 1;

@@ -1,6 +1,6 @@
 //! A targeted session and what can be asked of it.
 
-use crate::kinds::KindSet;
+use crate::kinds::{Application, KindSet};
 use crate::lists::{ApplicationSet, ControlSet};
 
 #[derive(Clone, Copy, Debug, PartialEq, Eq)]
@@ -74,6 +74,26 @@ impl Session {
         match self.peer.listed {
             Some(listed) => !self.enabled.common(listed).is_empty(),
             None => true,
+        }
+    }
+
+    /// Is every application in common one that is used as much as its limit
+    /// allows? Without negotiation in force no limit is asked.
+    pub fn at_limit(&self, below: ApplicationSet) -> bool {
+        match self.peer.listed {
+            Some(listed) => self.enabled.common(listed).common(below).is_empty(),
+            None => false,
+        }
+    }
+
+    /// Does this session use the application? None, without negotiation in
+    /// force.
+    pub fn uses(&self, application: Application) -> bool {
+        match self.peer.listed {
+            Some(listed) if self.state == State::Open => {
+                self.enabled.common(listed).contains(application)
+            }
+            _ => false,
         }
     }
 

@@ -1,8 +1,12 @@
 //! The rules, through the public functions only.
 
+mod counts;
+mod limits;
+mod numbers;
 mod proved;
 mod refusals;
 mod rfc;
+mod rows;
 mod states;
 mod stored;
 mod widening;
@@ -112,6 +116,13 @@ impl Box22 {
         (answer, room[..written].to_vec())
     }
 
+    /// The session as a row holds it.
+    pub fn loaded(&self) -> Fields {
+        let loaded = load(&self.0);
+        assert_eq!(loaded.refusal, 0);
+        loaded.session
+    }
+
     pub fn state(&self) -> u8 {
         assert!(sound(&self.0), "{:02X?}", self.0);
         self.0[4]
@@ -163,6 +174,25 @@ impl Box22 {
     }
 }
 
+/// The session of a row in a record of its own.
+pub fn stored(session: Fields) -> Box22 {
+    let mut record = [0x5C; RECORD_LENGTH];
+    assert_eq!(store(session, &mut record), 0);
+    Box22(record)
+}
+
+/// A TAC that lists these applications.
+pub fn tac(ta_ids: &[u32]) -> Vec<u8> {
+    let mut area = vec![0x85, 0x0F];
+    area.extend((1 + 4 * ta_ids.len() as u16).to_be_bytes());
+    area.push(0x80);
+    for &ta_id in ta_ids {
+        area.extend((ta_id as u16).to_be_bytes());
+        area.extend([0x80, 0x00]);
+    }
+    area
+}
+
 pub fn done(lost: u16, gained: u16) -> Answer {
     Answer {
         lost,
@@ -182,6 +212,13 @@ pub fn mismatched(lost: u16) -> Answer {
     Answer {
         outcome: 2,
         lost,
+        ..Answer::default()
+    }
+}
+
+pub fn at_limit() -> Answer {
+    Answer {
+        outcome: 3,
         ..Answer::default()
     }
 }

@@ -2,18 +2,6 @@
 
 use crate::*;
 
-/// A TAC that lists these applications.
-fn tac(ta_ids: &[u32]) -> Vec<u8> {
-    let mut area = vec![0x85, 0x0F];
-    area.extend((1 + 4 * ta_ids.len() as u16).to_be_bytes());
-    area.push(0x80);
-    for &ta_id in ta_ids {
-        area.extend((ta_id as u16).to_be_bytes());
-        area.extend([0x80, 0x00]);
-    }
-    area
-}
-
 /// Both ends open with each other's lists; each one's permitted kinds.
 fn meet(initiator: &[u32], responder: &[u32]) -> [(Answer, u16); 2] {
     [(initiator, responder, true), (responder, initiator, false)].map(

@@ -1,0 +1,65 @@
+-- `row::counted` meets its contract: the loop's invariant: the first k counts are brought up to date. Assumes nothing.
+use mathlib.Core.Path.{_≡_, refl, sym, _∙_}
+use Prim.Native.Nat.{_≤_, _-_}
+use native.Mathlib.Omega.{arith}
+use borrow.Author.Needs.{needs}
+use Rattle.row.specs.Tally.{counted}
+use Rattle.row.proofs.Tallied.{counted-more}
+use Rattle.row.proofs.counting.counted.Statement.{statement}
+use Rattle.row.proofs.counting.counted.Tie as tie
+
+abbrev Inv-loop : tie.InvT-loop
+Inv-loop applications counts out₀ k₀ out k = (k ≤ 13) × (out ≡ counted counts applications k)
+
+abbrev μ-loop : tie.MeasureT-loop
+μ-loop applications counts out₀ k₀ out k = 13 - k
+
+loop-holds : tie.Need-loop-holds Inv-loop μ-loop
+unfolding counted
+loop-holds c = (omega arith, refl)
+
+array-read-n : tie.Need-array-read-n Inv-loop μ-loop
+array-read-n c = omega arith
+
+cast-has : tie.Need-cast-has Inv-loop μ-loop
+cast-has c = omega arith
+
+has-requires : tie.Need-has-requires Inv-loop μ-loop
+has-requires c κs = search needs
+
+more-requires : tie.Need-more-requires Inv-loop μ-loop
+more-requires c κs = search needs
+
+array-write-out : tie.Need-array-write-out Inv-loop μ-loop
+array-write-out c = omega arith
+
+add-k : tie.Need-add-k Inv-loop μ-loop
+add-k c = omega arith
+
+loop-less : tie.Need-loop-less Inv-loop μ-loop
+loop-less c = omega arith
+
+loop-again : tie.Need-loop-again Inv-loop μ-loop
+loop-again c = (omega arith, simp (c .more .ensures, c .before .has .ensures, c .before .before .before .loop .inv .1, counted-more))
+
+returns : tie.Need-returns Inv-loop μ-loop
+returns c = let l = c .before .loop in
+    let e : l .k ≡ 13 = omega arith in
+    rw e at (l .inv .1)
+
+pub counted-spec : {M : Type 1} → statement M
+counted-spec =
+    tie.close
+    (tie.spec
+    Inv-loop
+    μ-loop
+    loop-holds
+    array-read-n
+    cast-has
+    has-requires
+    more-requires
+    array-write-out
+    add-k
+    loop-less
+    loop-again
+    returns)

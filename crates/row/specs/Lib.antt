@@ -1,0 +1,4 @@
+pub mod Limits
+pub mod Event
+pub mod Row
+pub mod Tally

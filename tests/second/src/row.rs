@@ -1,0 +1,166 @@
+//! A row of sessions: how many of them use an application, and the events of
+//! one of them. An event changes no other session, and a refused one changes
+//! none at all.
+
+use crate::events::Effect;
+use crate::fields::Fields;
+use crate::kinds::Application;
+use crate::limits::Limits;
+use crate::lists::ApplicationSet;
+use crate::session::Session;
+use crate::{undergo, Answer, Refusal};
+
+const LONGEST: usize = 64;
+
+/// How many sessions of a row use an application. After a refusal it is 0.
+#[derive(Clone, Copy, Debug, Default, PartialEq, Eq)]
+pub struct Count {
+    pub refusal: u8,
+    pub count: u8,
+}
+
+/// An event as numbers; which ones count depends on the first.
+#[derive(Clone, Copy, Debug, Default, PartialEq, Eq)]
+pub struct Event {
+    pub which: u32,
+    pub ta_id: u32,
+    pub on: u32,
+    pub number: u32,
+}
+
+/// The sessions of a row, all of them sound.
+struct Row(Vec<Session>);
+
+impl Row {
+    fn of(row: &[Fields]) -> Result<Row, Refusal> {
+        if row.is_empty() {
+            return Err(Refusal::OutsideRow);
+        }
+        if row.len() > LONGEST {
+            return Err(Refusal::OutsideRow);
+        }
+        let sessions: Result<Vec<Session>, Refusal> = row.iter().map(Fields::session).collect();
+        Ok(Row(sessions?))
+    }
+
+    /// The same for an event of session `at`.
+    fn for_event(row: &[Fields], at: usize) -> Result<Row, Refusal> {
+        if at >= row.len() {
+            return Err(Refusal::OutsideRow);
+        }
+        Row::of(row)
+    }
+
+    /// How many sessions use the application.
+    fn count(&self, application: Application) -> usize {
+        let users = self.0.iter().filter(|session| session.uses(application));
+        users.count()
+    }
+
+    /// The applications that fewer sessions use than their limits.
+    fn below(&self, limits: &Limits) -> ApplicationSet {
+        let mut below = ApplicationSet::EMPTY;
+        for application in Application::ALL {
+            let fewer = self.count(application) < limits.acting(application);
+            below.set(application, fewer);
+        }
+        below
+    }
+}
+
+/// How many sessions of the row use this application?
+pub fn row_count(row: &[Fields], ta_id: u32) -> Count {
+    let answer = Row::of(row).and_then(|row| {
+        let application = Application::from_ta_id(ta_id).ok_or(Refusal::OutOfRange)?;
+        Ok(row.count(application))
+    });
+    match answer {
+        Ok(count) => Count {
+            refusal: 0,
+            count: count as u8,
+        },
+        Err(refusal) => Count {
+            refusal: refusal.number(),
+            count: 0,
+        },
+    }
+}
+
+/// Any event of session `at`, by its number.
+pub fn row_event(
+    row: &mut [Fields],
+    at: usize,
+    event: Event,
+    limits: Limits,
+    area: &[u8],
+    room: &mut [u8],
+) -> Answer {
+    match event.which {
+        0 => row_initialization(row, at, limits, area),
+        1 => row_capability(row, at, area),
+        2 => row_local_change(row, at, event.ta_id, event.on != 0, room),
+        3 => row_mismatch(row, at),
+        4 => row_hello(row, at, event.number),
+        5 => row_closed(row, at),
+        _ => happen_in(row, at, |_, _| Err(Refusal::WrongState)),
+    }
+}
+
+/// An Initialization message arrived; it is held to the limits.
+pub fn row_initialization(row: &mut [Fields], at: usize, limits: Limits, area: &[u8]) -> Answer {
+    happen_in(row, at, |session, row| {
+        session.initialization(area, row.below(&limits))
+    })
+}
+
+/// A Capability message arrived.
+pub fn row_capability(row: &mut [Fields], at: usize, area: &[u8]) -> Answer {
+    happen_in(row, at, |session, _| session.capability(area))
+}
+
+/// One application is switched on or off here.
+pub fn row_local_change(
+    row: &mut [Fields],
+    at: usize,
+    ta_id: u32,
+    on: bool,
+    room: &mut [u8],
+) -> Answer {
+    happen_in(row, at, |session, _| session.local_change(ta_id, on, room))
+}
+
+/// The peer told us of a mismatch.
+pub fn row_mismatch(row: &mut [Fields], at: usize) -> Answer {
+    happen_in(row, at, |session, _| session.mismatch_notified())
+}
+
+/// A Hello arrived.
+pub fn row_hello(row: &mut [Fields], at: usize, number: u32) -> Answer {
+    happen_in(row, at, |session, _| session.hello(number))
+}
+
+/// The connection closed.
+pub fn row_closed(row: &mut [Fields], at: usize) -> Answer {
+    happen_in(row, at, |session, _| session.closed())
+}
+
+/// Takes session `at` out of its row, lets the event happen, and puts the
+/// session back unless the event was refused.
+fn happen_in(
+    row: &mut [Fields],
+    at: usize,
+    event: impl FnOnce(&mut Session, &Row) -> Result<Effect, Refusal>,
+) -> Answer {
+    let result = Row::for_event(row, at).and_then(|before| {
+        let mut session = before.0[at];
+        let answer = undergo(&mut session, |session| event(session, &before))?;
+        Ok((session, answer))
+    });
+    match result {
+        Ok((session, answer)) => {
+            row[at] = Fields::of(&session);
+            answer
+        }
+        Err(refusal) => refusal.answer(),
+    }
+}
