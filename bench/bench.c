@@ -8,7 +8,8 @@
  *
  * WHO is tacit, second or nothing: calls with the same parameters that do
  * nothing, for what the loop itself takes. Before each call the record is put
- * back as it was; no other buffer is touched.
+ * back as it was, or the session of a row that the event is for; no other buffer
+ * is touched.
  */
 #define _DEFAULT_SOURCE
 #include "calls.h"
@@ -51,8 +52,24 @@ NOTHING(struct tacit_retry, (void)r, (void)rl)
 static bool nothing_sound(RECORD_READ)
 NOTHING(bool, (void)r, (void)rl)
 
-static const struct calls tacit = CALLS_OF(tacit), second = CALLS_OF(second),
-                          nothing = CALLS_OF(nothing);
+static struct tacit_answer nothing_row_event(struct tacit_session *s, size_t sl, size_t i,
+                                             struct tacit_event e, struct tacit_limits l, AREA,
+                                             uint8_t *w, size_t wl)
+NOTHING(struct tacit_answer, (void)s, (void)sl, (void)i, (void)e, (void)l, (void)a, (void)al,
+        (void)w, (void)wl)
+
+/* The calls for records, and the one for rows. */
+struct side {
+    struct calls calls;
+    struct tacit_answer (*row_event)(struct tacit_session *, size_t, size_t, struct tacit_event,
+                                     struct tacit_limits, const uint8_t *, size_t, uint8_t *,
+                                     size_t);
+};
+
+#define SIDE_OF(word) {CALLS_OF(word), word##_row_event}
+
+static const struct side tacit = SIDE_OF(tacit), second = SIDE_OF(second),
+                         nothing = SIDE_OF(nothing);
 
 /* ---------------------------------------------------------------------- */
 /* What is handed in                                                       */
@@ -70,10 +87,27 @@ static struct area six = {39, {0x85, 0x06, 0, 1, 0x80, 0x85, 0x08, 0, 1, 0x80, 0
                                1, 0x80, 0x85, 0x0B, 0, 1, 0x80, 0x85, 0x0D, 0, 2, 0x80, 0xB0,
                                0x85, 0x0F, 0, 9, 0x80, 0, 4, 0x80, 0, 0, 7, 0x80, 0}};
 
-static struct area thousand_elements, thousand_tlvs;
+static struct area thousand_elements, thousand_tlvs, none;
 
 static uint8_t ready[TACIT_RECORD_LENGTH], opened[TACIT_RECORD_LENGTH];
 static uint8_t record[TACIT_RECORD_LENGTH], room[TACIT_MESSAGE_LENGTH];
+
+enum { LAST = TACIT_ROW_MOST - 1 }; /* the session of the row that events are for */
+
+static struct tacit_session sessions[TACIT_ROW_MOST], last_before;
+static struct tacit_limits limits;
+
+/*
+ * A full row: 63 sessions use 4 and 7, and the last is fresh. 4 is at its limit,
+ * and 7 has room for one more.
+ */
+static void prepare_row(void)
+{
+    for (size_t i = 0; i < LAST; i++)
+        sessions[i] = tacit_load(opened, sizeof opened).session;
+    last_before = tacit_load(ready, sizeof ready).session;
+    limits = tacit_set_limit(tacit_no_limits(), 4, 2).limits;
+}
 
 static void prepare_all(void)
 {
@@ -93,6 +127,7 @@ static void prepare_all(void)
     tacit_create(ready, sizeof ready, true, true, true, false, 0, 0x48, 1);
     memcpy(opened, ready, sizeof opened);
     tacit_initialization(opened, sizeof opened, six.octets, six.length);
+    prepare_row();
 }
 
 /* ---------------------------------------------------------------------- */
@@ -109,20 +144,21 @@ static uint8_t said[16];
     } while (0)
 
 struct row;
-typedef void run_row(const struct calls *calls, const struct row *row, unsigned long times);
+typedef void run_row(const struct side *side, const struct row *row, unsigned long times);
 
 struct row {
     const char *name;
     const char *text;
     unsigned long times; /* calls that make a count */
     run_row *run;
-    const uint8_t *from; /* the record before each call */
+    const uint8_t *from; /* the record before each call; none for a row of sessions */
     const struct area *area;
 };
 
 #define ROW(name, type, call)                                                            \
-    static void name(const struct calls *calls, const struct row *row, unsigned long times) \
+    static void name(const struct side *side, const struct row *row, unsigned long times) \
     {                                                                                    \
+        const struct calls *calls = &side->calls;                                        \
         while (times-- > 0) {                                                            \
             memcpy(record, row->from, sizeof record);                                    \
             SAY(type, call);                                                             \
@@ -145,6 +181,28 @@ ROW(run_permitted, struct tacit_permission, calls->permitted(record, sizeof reco
 ROW(run_permitted_kinds, struct tacit_kinds, calls->permitted_kinds(record, sizeof record))
 ROW(run_retry_interval, struct tacit_retry, calls->retry_interval(record, sizeof record))
 ROW(run_sound, bool, calls->sound(record, sizeof record))
+
+/* An event of the last session of the row. It changes no other, so that one alone is put back. */
+static void run_event(const struct side *side, struct tacit_event event, const struct area *area,
+                      unsigned long times)
+{
+    while (times-- > 0) {
+        sessions[LAST] = last_before;
+        SAY(struct tacit_answer, side->row_event(sessions, TACIT_ROW_MOST, LAST, event, limits,
+                                                 area->octets, area->length, NULL, 0));
+    }
+}
+
+static void run_row_initialization(const struct side *side, const struct row *row,
+                                   unsigned long times)
+{
+    run_event(side, (struct tacit_event){TACIT_EVENT_INITIALIZATION, 0, 0, 0}, row->area, times);
+}
+
+static void run_row_hello(const struct side *side, const struct row *row, unsigned long times)
+{
+    run_event(side, (struct tacit_event){TACIT_EVENT_HELLO, 0, 0, 5}, row->area, times);
+}
 
 static const struct row rows[] = {
     {"read-frr", "read, FRR's parameters (15 octets)", 10000, run_read, ready, &frr},
@@ -169,6 +227,9 @@ static const struct row rows[] = {
     {"kinds", "permitted, all kinds", 10000, run_permitted_kinds, opened, NULL},
     {"retry", "retry interval", 10000, run_retry_interval, opened, NULL},
     {"sound", "sound", 10000, run_sound, opened, NULL},
+    {"row-init", "Initialization in a row of 64, six capability TLVs", 1000, run_row_initialization,
+     NULL, &six},
+    {"row-hello", "Hello in a row of 64, recorded", 1000, run_row_hello, NULL, &none},
 };
 
 enum { ROWS = sizeof rows / sizeof *rows };
@@ -177,16 +238,34 @@ enum { ROWS = sizeof rows / sizeof *rows };
 /* Ways to run                                                             */
 /* ---------------------------------------------------------------------- */
 
+/* Octets between the fields of a session say nothing. */
+static bool same_session(const struct tacit_session *a, const struct tacit_session *b)
+{
+    return a->state == b->state && a->flags == b->flags && a->disabled == b->disabled &&
+           a->enabled == b->enabled && a->listed == b->listed && a->protects == b->protects &&
+           a->hello == b->hello && a->next == b->next;
+}
+
+static bool same_row(const struct tacit_session *row)
+{
+    for (size_t i = 0; i < TACIT_ROW_MOST; i++)
+        if (!same_session(&row[i], &sessions[i]))
+            return false;
+    return true;
+}
+
 static int check(void)
 {
     int wrong = 0;
     for (int i = 0; i < ROWS; i++) {
         uint8_t value[sizeof said], after[sizeof record], written[sizeof room];
+        struct tacit_session row_after[TACIT_ROW_MOST];
         memset(room, 0, sizeof room);
         rows[i].run(&tacit, &rows[i], 1);
         memcpy(value, said, sizeof value);
         memcpy(after, record, sizeof after);
         memcpy(written, room, sizeof written);
+        memcpy(row_after, sessions, sizeof row_after);
         memset(room, 0, sizeof room);
         rows[i].run(&second, &rows[i], 1);
         /* Octets between the fields of an answer say nothing. */
@@ -194,7 +273,8 @@ static int check(void)
             value[1] = said[1] = 0;
         bool refused = rows[i].run != run_sound && value[0] != 0;
         if (refused || memcmp(value, said, sizeof value) != 0 ||
-            memcmp(after, record, sizeof after) != 0 || memcmp(written, room, sizeof written) != 0) {
+            memcmp(after, record, sizeof after) != 0 || memcmp(written, room, sizeof written) != 0 ||
+            !same_row(row_after)) {
             fprintf(stderr, "bench: refused, or not the same: %s\n", rows[i].text);
             wrong = 1;
         }
@@ -210,12 +290,12 @@ static double now(void)
 }
 
 /* The shortest of many runs, each of some milliseconds. */
-static double nanoseconds(const struct calls *calls, const struct row *row)
+static double nanoseconds(const struct side *side, const struct row *row)
 {
     double best = 0;
     for (int i = 0; i < 60; i++) {
         double start = now();
-        row->run(calls, row, row->times * 2);
+        row->run(side, row, row->times * 2);
         double each = (now() - start) / (double)(row->times * 2);
         if (i == 0 || each < best)
             best = each;
@@ -225,7 +305,7 @@ static double nanoseconds(const struct calls *calls, const struct row *row)
 
 int main(int count, char **words)
 {
-    const struct calls *calls = NULL;
+    const struct side *side = NULL;
     const struct row *row = NULL;
     prepare_all();
     if (count == 2 && strcmp(words[1], "rows") == 0) {
@@ -237,21 +317,21 @@ int main(int count, char **words)
         return check();
     if (count >= 4) {
         if (strcmp(words[2], "tacit") == 0)
-            calls = &tacit;
+            side = &tacit;
         else if (strcmp(words[2], "second") == 0)
-            calls = &second;
+            side = &second;
         else if (strcmp(words[2], "nothing") == 0)
-            calls = &nothing;
+            side = &nothing;
         for (int i = 0; i < ROWS; i++)
             if (strcmp(words[3], rows[i].name) == 0)
                 row = &rows[i];
     }
-    if (calls != NULL && row != NULL && count == 5 && strcmp(words[1], "count") == 0) {
-        row->run(calls, row, strtoul(words[4], NULL, 10));
+    if (side != NULL && row != NULL && count == 5 && strcmp(words[1], "count") == 0) {
+        row->run(side, row, strtoul(words[4], NULL, 10));
         return 0;
     }
-    if (calls != NULL && row != NULL && count == 4 && strcmp(words[1], "time") == 0) {
-        printf("%.2f\n", nanoseconds(calls, row));
+    if (side != NULL && row != NULL && count == 4 && strcmp(words[1], "time") == 0) {
+        printf("%.2f\n", nanoseconds(side, row));
         return 0;
     }
     fprintf(stderr, "usage: bench rows | check | count WHO ROW CALLS | time WHO ROW\n");

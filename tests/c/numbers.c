@@ -257,7 +257,8 @@ static void row_numbers(void)
 /* All that is handed over by value differs, and only what an event reads has an effect. */
 static void fields_of_events(void)
 {
-    static const struct tacit_limits limits = {{21, 22, 23, 24, 25, 26, 27, 28, 29, 30, 31, 32, 33}};
+    static const struct tacit_limits limits = {
+        {21, 22, 23, 24, 25, 26, 27, 28, 29, 30, 31, 32, 33}};
     struct octets area = hex("850D0002 80 90");
     uint8_t room[19] = {0};
     struct sessions row = two_open();

@@ -12,9 +12,13 @@ mod call;
 mod library;
 mod numbers;
 mod records;
+mod row_scenes;
+mod rows;
 mod scenes;
+mod show;
 mod shrink;
 mod tally;
+mod wire;
 
 use call::{Call, Seen};
 use library::{Library, Lost};
@@ -30,7 +34,7 @@ const USAGE: &str =
   --differences D  stop after so many differences (1)
   --as-met         show a difference as it was met, not as small as it goes
   --trace          print every call
-  --null           lend an empty area, record or room as a null pointer";
+  --null           lend an empty area, record, row or room as a null pointer";
 
 struct Options {
     calls: u64,
@@ -131,7 +135,7 @@ impl Batch {
             }
             let seen = call.ask_second();
             scenes.saw(&call, &seen);
-            octets += call.record.len() + call.area().len() + call.room().len();
+            octets += call.octets();
             batch.calls.push(call);
             batch.second.push(seen);
         }

@@ -15,8 +15,8 @@ pub const ACTIVE: u8 = 1 << 1;
 pub const USES_TAC: u8 = 1 << 2;
 pub const DROPS: u8 = 1 << 3;
 pub const IN_FORCE: u8 = 1 << 4;
-const DYNAMIC: u8 = 1 << 5;
-const HELLO: u8 = 1 << 6;
+pub const DYNAMIC: u8 = 1 << 5;
+pub const HELLO: u8 = 1 << 6;
 
 /// The record with these fields, whether or not they go together.
 pub fn stored(session: &Fields) -> Vec<u8> {
@@ -30,8 +30,11 @@ pub fn stored(session: &Fields) -> Vec<u8> {
     octets
 }
 
-/// The fields of a record of the right length, whatever they are.
+/// The fields of a record, whatever they are; none if it is too short.
 pub fn fields(record: &[u8]) -> Fields {
+    if record.len() < LENGTH {
+        return Fields::default();
+    }
     let pair = |at: usize| u16::from_le_bytes([record[at], record[at + 1]]);
     let number = |at: usize| u32::from(pair(at)) | u32::from(pair(at + 2)) << 16;
     Fields {
@@ -253,14 +256,6 @@ pub fn any_length(numbers: &mut Numbers) -> usize {
         numbers.one_of(&[LENGTH - 2, LENGTH - 1, LENGTH + 1, LENGTH + 2])
     } else {
         numbers.below(65)
-    }
-}
-
-/// The fields of any record; none of a record that is too short.
-pub fn fields_if_any(record: &[u8]) -> Fields {
-    match record.get(..LENGTH) {
-        Some(record) => fields(record),
-        None => Fields::default(),
     }
 }
 

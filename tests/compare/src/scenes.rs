@@ -1,9 +1,11 @@
-//! Which call comes next: long walks of one session through its events, and
-//! single calls on records of any sort.
+//! Which call comes next: long walks of one session or one row through their
+//! events, and single calls on records and rows of any sort.
 
 use crate::call::{Ask, Call, Said, Seen};
 use crate::numbers::Numbers;
+use crate::row_scenes::{self, RowWalk};
 use crate::{areas, records};
+use second::Fields;
 
 /// A session on its way.
 struct Walk {
@@ -14,6 +16,7 @@ struct Walk {
 pub struct Scenes {
     numbers: Numbers,
     walk: Option<Walk>,
+    row_walk: Option<RowWalk>,
 }
 
 impl Scenes {
@@ -21,51 +24,54 @@ impl Scenes {
         Scenes {
             numbers: Numbers::from_seed(seed),
             walk: None,
+            row_walk: None,
         }
     }
 
     pub fn next(&mut self) -> Call {
+        let numbers = &mut self.numbers;
         if let Some(walk) = &self.walk {
-            let ask = step(&mut self.numbers, &walk.record);
-            return Call {
-                record: walk.record.clone(),
-                ask,
-            };
+            let ask = step(numbers, &records::fields(&walk.record));
+            return Call::on_record(walk.record.clone(), ask);
         }
-        match self.numbers.weighted(&[5, 15, 80]) {
-            0 => creation(&mut self.numbers),
+        if self.row_walk.is_none() && numbers.chance(1) {
+            self.row_walk = Some(RowWalk::new(numbers));
+        }
+        if let Some(walk) = &self.row_walk {
+            return walk.next(numbers);
+        }
+        match numbers.weighted(&[4, 10, 36, 40, 10]) {
+            0 => creation(numbers),
             1 => {
-                let hint = records::applications(&mut self.numbers);
-                Call {
-                    record: Vec::new(),
-                    ask: Ask::Read {
-                        area: areas::any(&mut self.numbers, hint),
-                    },
-                }
+                let hint = records::applications(numbers);
+                Call::alone(Ask::Read {
+                    area: areas::any(numbers, hint),
+                })
             }
-            _ => single(&mut self.numbers),
+            2 => single(numbers),
+            3 => row_scenes::single(numbers),
+            _ => row_scenes::beside_a_row(numbers),
         }
     }
 
     /// Goes on from what was seen.
     pub fn saw(&mut self, call: &Call, seen: &Seen) {
-        match &mut self.walk {
-            Some(walk) => {
-                walk.record.clone_from(&seen.record);
-                walk.left -= 1;
-                if walk.left == 0 {
-                    self.walk = None;
-                }
+        if let Some(walk) = &mut self.walk {
+            walk.record.clone_from(&seen.record);
+            walk.left -= 1;
+            if walk.left == 0 {
+                self.walk = None;
             }
-            None => {
-                let created = matches!(call.ask, Ask::Create { .. });
-                if created && seen.said == Said::Created(0) {
-                    self.walk = Some(Walk {
-                        record: seen.record.clone(),
-                        left: self.numbers.one_of(&[1, 5, 20, 60, 200]),
-                    });
-                }
+        } else if let Some(walk) = &mut self.row_walk {
+            walk.saw(call, seen);
+            if walk.is_over() {
+                self.row_walk = None;
             }
+        } else if matches!(call.ask, Ask::Create { .. }) && seen.said == Said::Refusal(0) {
+            self.walk = Some(Walk {
+                record: seen.record.clone(),
+                left: self.numbers.one_of(&[1, 5, 20, 60, 200]),
+            });
         }
     }
 }
@@ -84,20 +90,19 @@ fn creation(numbers: &mut Numbers) -> Call {
     if numbers.chance(12) {
         enabled = beyond(numbers, enabled, 13);
     }
-    Call {
-        record: numbers.octets(length),
-        ask: Ask::Create {
-            roles: [
-                numbers.flag(),
-                numbers.flag(),
-                numbers.chance(75),
-                numbers.flag(),
-            ],
-            protected,
-            enabled,
-            first: records::word(numbers),
-        },
-    }
+    let record = numbers.octets(length);
+    let ask = Ask::Create {
+        roles: [
+            numbers.flag(),
+            numbers.flag(),
+            numbers.chance(75),
+            numbers.flag(),
+        ],
+        protected,
+        enabled,
+        first: records::word(numbers),
+    };
+    Call::on_record(record, ask)
 }
 
 /// A set with something beyond its width.
@@ -113,7 +118,8 @@ fn beyond(numbers: &mut Numbers, set: u32, width: usize) -> u32 {
 /// A call on a record of any sort.
 fn single(numbers: &mut Numbers) -> Call {
     let record = records::any(numbers);
-    let hint = records::hint(&record);
+    let session = records::fields(&record);
+    let hint = records::hint(&session);
     let ask = match numbers.weighted(&[18, 20, 20, 7, 12, 5, 6, 4, 3, 5]) {
         0 => Ask::Initialization {
             area: areas::any(numbers, hint),
@@ -121,24 +127,24 @@ fn single(numbers: &mut Numbers) -> Call {
         1 => Ask::Capability {
             area: areas::any(numbers, hint),
         },
-        2 => local_change(numbers, &record, hint),
+        2 => local_change(numbers, &session),
         3 => Ask::Mismatch,
-        4 => hello(numbers, &record),
+        4 => hello(numbers, &session),
         5 => Ask::Closed,
         6 => permitted(numbers),
         7 => Ask::PermittedKinds,
         8 => Ask::RetryInterval,
         _ => Ask::Sound,
     };
-    Call { record, ask }
+    Call::on_record(record, ask)
 }
 
 /// The next step of a walk, mostly one that its state is for.
-fn step(numbers: &mut Numbers, record: &[u8]) -> Ask {
-    let hint = records::hint(record);
+fn step(numbers: &mut Numbers, session: &Fields) -> Ask {
+    let hint = records::hint(session);
     // Initialization, Capability, local change, mismatch, Hello, closed,
     // permitted, permitted kinds, retry interval, sound.
-    let weights = match record[4] {
+    let weights = match session.state {
         records::READY => [50, 3, 15, 4, 10, 2, 4, 4, 4, 4],
         records::OPEN => [3, 40, 30, 2, 8, 3, 4, 4, 3, 3],
         records::HELD => [4, 4, 25, 4, 40, 3, 4, 4, 8, 4],
@@ -151,9 +157,9 @@ fn step(numbers: &mut Numbers, record: &[u8]) -> Ask {
         1 => Ask::Capability {
             area: mostly_good(numbers, hint),
         },
-        2 => local_change(numbers, record, hint),
+        2 => local_change(numbers, session),
         3 => Ask::Mismatch,
-        4 => hello(numbers, record),
+        4 => hello(numbers, session),
         5 => Ask::Closed,
         6 => permitted(numbers),
         7 => Ask::PermittedKinds,
@@ -162,7 +168,7 @@ fn step(numbers: &mut Numbers, record: &[u8]) -> Ask {
     }
 }
 
-fn mostly_good(numbers: &mut Numbers, hint: u16) -> Vec<u8> {
+pub fn mostly_good(numbers: &mut Numbers, hint: u16) -> Vec<u8> {
     if numbers.chance(85) {
         areas::well_formed(numbers, hint)
     } else {
@@ -170,9 +176,17 @@ fn mostly_good(numbers: &mut Numbers, hint: u16) -> Vec<u8> {
     }
 }
 
-fn local_change(numbers: &mut Numbers, record: &[u8], hint: u16) -> Ask {
+fn local_change(numbers: &mut Numbers, session: &Fields) -> Ask {
+    let ta_id = ta_id_to_change(numbers, records::hint(session));
+    let room = room(numbers);
+    let on = on_or_off(numbers, session, ta_id);
+    Ask::LocalChange { ta_id, on, room }
+}
+
+/// A TA-Id, often one that matters to the session, now and then none at all.
+pub fn ta_id_to_change(numbers: &mut Numbers, hint: u16) -> u32 {
     let known = numbers.between(1, 13) as u32;
-    let ta_id = match numbers.weighted(&[45, 40, 15]) {
+    match numbers.weighted(&[45, 40, 15]) {
         0 if hint != 0 => loop {
             let bit = numbers.below(13);
             if hint >> bit & 1 == 1 {
@@ -181,23 +195,25 @@ fn local_change(numbers: &mut Numbers, record: &[u8], hint: u16) -> Ask {
         },
         2 => out_of_range(numbers, known, 14),
         _ => known,
-    };
+    }
+}
+
+/// More often a change than not.
+pub fn on_or_off(numbers: &mut Numbers, session: &Fields, ta_id: u32) -> bool {
+    match ta_id {
+        1..=13 if numbers.chance(60) => session.enabled >> (ta_id - 1) & 1 == 0,
+        _ => numbers.flag(),
+    }
+}
+
+/// Room for a message, about as much as it needs.
+pub fn room(numbers: &mut Numbers) -> Vec<u8> {
     let length = match numbers.below(3) {
         0 => numbers.one_of(&[16, 17, 18]),
         1 => numbers.between(17, 40),
         _ => numbers.between(0, 40),
     };
-    // More often a change than not.
-    let enabled = records::enabled(record);
-    let on = match ta_id {
-        1..=13 if numbers.chance(60) => enabled >> (ta_id - 1) & 1 == 0,
-        _ => numbers.flag(),
-    };
-    Ask::LocalChange {
-        ta_id,
-        on,
-        room: numbers.octets(length),
-    }
+    numbers.octets(length)
 }
 
 fn permitted(numbers: &mut Numbers) -> Ask {
@@ -211,7 +227,7 @@ fn permitted(numbers: &mut Numbers) -> Ask {
 }
 
 /// A number that must not be taken for `inside`, or 0.
-fn out_of_range(numbers: &mut Numbers, inside: u32, first: u32) -> u32 {
+pub fn out_of_range(numbers: &mut Numbers, inside: u32, first: u32) -> u32 {
     let random = numbers.word();
     let choices = [
         0,
@@ -230,8 +246,14 @@ fn out_of_range(numbers: &mut Numbers, inside: u32, first: u32) -> u32 {
     numbers.one_of(&choices)
 }
 
-fn hello(numbers: &mut Numbers, record: &[u8]) -> Ask {
-    let recorded = records::hello(record);
+fn hello(numbers: &mut Numbers, session: &Fields) -> Ask {
+    Ask::Hello {
+        number: hello_number(numbers, session.hello),
+    }
+}
+
+/// A Hello number about the recorded one, or any.
+pub fn hello_number(numbers: &mut Numbers, recorded: u32) -> u32 {
     let random = records::word(numbers);
     let choices = [
         recorded,
@@ -246,10 +268,9 @@ fn hello(numbers: &mut Numbers, record: &[u8]) -> Ask {
         random,
     ];
     // Nothing is higher than the last one, so it comes seldom.
-    let number = if numbers.chance(4) {
+    if numbers.chance(4) {
         u32::MAX
     } else {
         numbers.one_of(&choices)
-    };
-    Ask::Hello { number }
+    }
 }

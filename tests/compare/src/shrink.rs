@@ -1,9 +1,10 @@
 //! Makes a call that differs as small as it goes: fewer octets first, then
 //! fewer bits set.
 
-use crate::call::{Ask, Call};
+use crate::call::{Ask, Call, RowEvent};
 use crate::library::Library;
 use crate::records;
+use second::{Event, Fields, Limits};
 use std::time::{Duration, Instant};
 
 /// No difference is worth more time than this.
@@ -12,16 +13,19 @@ const PATIENCE: Duration = Duration::from_secs(10);
 /// Hands simpler calls to `take` until one is taken; tells whether one was.
 type Pass = fn(&Call, take: &mut dyn FnMut(Call) -> bool) -> bool;
 
-const PASSES: [Pass; 9] = [
+const PASSES: [Pass; 12] = [
+    fewer_sessions,
     fewer_tlvs,
     shorter_area,
     shorter_room,
     shorter_record,
     plainer_session,
+    plainer_row,
     plainer_area,
     plainer_room,
     plainer_record,
     plainer_numbers,
+    plainer_row_numbers,
 ];
 
 /// The smallest call found that still differs.
@@ -56,7 +60,6 @@ fn smaller(call: &Call, pass: Pass, deadline: Instant, library: &mut Library) ->
 /// How large a call is: octets, then set bits.
 fn size(call: &Call) -> (usize, u32) {
     let bits = |octets: &[u8]| octets.iter().map(|octet| octet.count_ones()).sum::<u32>();
-    let octets = call.record.len() + call.area().len() + call.room().len();
     let numbers = match &call.ask {
         Ask::Create {
             roles,
@@ -72,16 +75,46 @@ fn size(call: &Call) -> (usize, u32) {
         Ask::LocalChange { ta_id, on, .. } => ta_id.count_ones() + u32::from(*on),
         Ask::Hello { number } => number.count_ones(),
         Ask::Permitted { kind } => kind.count_ones(),
+        Ask::Store { session } | Ask::SessionKinds { session } | Ask::SessionRetry { session } => {
+            set_bits(session)
+        }
+        Ask::SetLimit {
+            limits,
+            ta_id,
+            limit,
+        } => bits(&limits.of) + ta_id.count_ones() + limit.count_ones(),
+        Ask::RowCount { ta_id } => ta_id.count_ones(),
+        Ask::RowEvent(row) => {
+            let Event {
+                which: _,
+                ta_id,
+                on,
+                number,
+            } = row.event;
+            bits(&row.limits.of)
+                + row.at.count_ones()
+                + ta_id.count_ones()
+                + on.count_ones()
+                + number.count_ones()
+        }
         _ => 0,
     };
+    let row: u32 = call.row.iter().map(set_bits).sum();
     let set = bits(&call.record) + bits(call.area()) + bits(call.room());
-    (octets, set + numbers)
+    (call.octets(), row + set + numbers)
+}
+
+fn set_bits(session: &Fields) -> u32 {
+    let octets = records::stored(session);
+    octets.iter().map(|octet| octet.count_ones()).sum()
 }
 
 fn with_area(call: &Call, octets: Vec<u8>) -> Call {
     let mut other = call.clone();
-    if let Ask::Read { area } | Ask::Initialization { area } | Ask::Capability { area } =
-        &mut other.ask
+    if let Ask::Read { area }
+    | Ask::Initialization { area }
+    | Ask::Capability { area }
+    | Ask::RowEvent(RowEvent { area, .. }) = &mut other.ask
     {
         *area = octets;
     }
@@ -90,24 +123,29 @@ fn with_area(call: &Call, octets: Vec<u8>) -> Call {
 
 fn with_room(call: &Call, octets: Vec<u8>) -> Call {
     let mut other = call.clone();
-    if let Ask::LocalChange { room, .. } = &mut other.ask {
+    if let Ask::LocalChange { room, .. } | Ask::RowEvent(RowEvent { room, .. }) = &mut other.ask {
         *room = octets;
     }
     other
 }
 
 fn with_record(call: &Call, record: Vec<u8>) -> Call {
-    Call {
-        record,
-        ask: call.ask.clone(),
-    }
+    let mut other = call.clone();
+    other.record = record;
+    other
 }
 
 fn with_ask(call: &Call, ask: Ask) -> Call {
-    Call {
-        record: call.record.clone(),
-        ask,
-    }
+    let mut other = call.clone();
+    other.ask = ask;
+    other
+}
+
+/// The call with another session in its row.
+fn with_session(call: &Call, at: usize, session: Fields) -> Call {
+    let mut other = call.clone();
+    other.row[at] = session;
+    other
 }
 
 fn shorter_area(call: &Call, take: &mut dyn FnMut(Call) -> bool) -> bool {
@@ -169,39 +207,77 @@ fn fewer_tlvs(call: &Call, take: &mut dyn FnMut(Call) -> bool) -> bool {
     false
 }
 
+/// Sessions out of the row, so that the one with the number stays the same.
+fn fewer_sessions(call: &Call, take: &mut dyn FnMut(Call) -> bool) -> bool {
+    runs(call.row.len(), &mut |from, to| {
+        let mut other = call.clone();
+        other.row.drain(from..to);
+        if let Ask::RowEvent(row) = &mut other.ask {
+            if row.at >= to as u64 {
+                row.at -= (to - from) as u64;
+            }
+        }
+        take(other)
+    })
+}
+
 /// Fields of a record that go together.
 fn plainer_session(call: &Call, take: &mut dyn FnMut(Call) -> bool) -> bool {
-    let record = &call.record;
-    if record.len() != records::LENGTH {
+    if call.record.len() != records::LENGTH {
         return false;
     }
-    // No Hello; not in force; nothing that only Open may have.
-    let mut other = record.clone();
-    other[5] &= !0x40;
-    other[14..18].fill(0);
-    if take(with_record(call, other)) {
-        return true;
-    }
-    let mut other = record.clone();
-    other[5] &= !0x10;
-    other[8..10].fill(0);
-    if take(with_record(call, other.clone())) {
-        return true;
-    }
-    other[4] = 0;
-    other[5] &= !0x20;
-    other[12] = 0;
-    if take(with_record(call, other)) {
-        return true;
-    }
-    // An application off both lists.
-    (0..16).any(|bit| {
-        let (octet, mask) = (bit / 8, 1 << (bit % 8));
-        let mut other = record.clone();
-        other[6 + octet] &= !mask;
-        other[8 + octet] &= !mask;
-        take(with_record(call, other))
+    plainer_fields(&records::fields(&call.record), &mut |session| {
+        let mut record = records::stored(&session);
+        for at in [0, 1, 2, 3, 13] {
+            record[at] = call.record[at];
+        }
+        take(with_record(call, record))
     })
+}
+
+fn plainer_row(call: &Call, take: &mut dyn FnMut(Call) -> bool) -> bool {
+    (0..call.row.len()).any(|at| {
+        fewer_fields(&call.row[at], &mut |session| {
+            take(with_session(call, at, session))
+        })
+    })
+}
+
+/// A session that says less: nothing, less of what goes together, fewer bits.
+fn fewer_fields(session: &Fields, take: &mut dyn FnMut(Fields) -> bool) -> bool {
+    take(Fields::default())
+        || plainer_fields(session, take)
+        || fewer_bits(&records::stored(session), &mut |record| {
+            take(records::fields(&record))
+        })
+}
+
+/// Fields that go together: no Hello; not in force; nothing that only Open may
+/// have; an application off both lists.
+fn plainer_fields(session: &Fields, take: &mut dyn FnMut(Fields) -> bool) -> bool {
+    let out_of_force = Fields {
+        flags: session.flags & !records::IN_FORCE,
+        listed: 0,
+        ..*session
+    };
+    take(Fields {
+        flags: session.flags & !records::HELLO,
+        hello: 0,
+        ..*session
+    }) || take(out_of_force)
+        || take(Fields {
+            state: records::READY,
+            flags: out_of_force.flags & !records::DYNAMIC,
+            disabled: 0,
+            ..out_of_force
+        })
+        || (0..16).any(|bit| {
+            take(Fields {
+                enabled: session.enabled & !(1 << bit),
+                listed: session.listed & !(1 << bit),
+                ..*session
+            })
+        })
 }
 
 fn plainer_numbers(call: &Call, take: &mut dyn FnMut(Call) -> bool) -> bool {
@@ -246,6 +322,74 @@ fn plainer_numbers(call: &Call, take: &mut dyn FnMut(Call) -> bool) -> bool {
         }),
         _ => false,
     }
+}
+
+fn plainer_row_numbers(call: &Call, take: &mut dyn FnMut(Call) -> bool) -> bool {
+    let mut take = |ask| take(with_ask(call, ask));
+    match &call.ask {
+        Ask::Store { session } => fewer_fields(session, &mut |session| take(Ask::Store { session })),
+        Ask::SessionKinds { session } => fewer_fields(session, &mut |session| {
+            take(Ask::SessionKinds { session })
+        }),
+        Ask::SessionRetry { session } => fewer_fields(session, &mut |session| {
+            take(Ask::SessionRetry { session })
+        }),
+        &Ask::SetLimit {
+            limits,
+            ta_id,
+            limit,
+        } => {
+            let mut take = |limits, ta_id, limit| {
+                take(Ask::SetLimit {
+                    limits,
+                    ta_id,
+                    limit,
+                })
+            };
+            lower_limits(&limits, &mut |limits| take(limits, ta_id, limit))
+                || lower(ta_id, &mut |ta_id| take(limits, ta_id, limit))
+                || lower(limit, &mut |limit| take(limits, ta_id, limit))
+        }
+        &Ask::RowCount { ta_id } => lower(ta_id, &mut |ta_id| take(Ask::RowCount { ta_id })),
+        Ask::RowEvent(row) => plainer_event(row, &mut |row| take(Ask::RowEvent(row))),
+        _ => false,
+    }
+}
+
+fn plainer_event(row: &RowEvent, take: &mut dyn FnMut(RowEvent) -> bool) -> bool {
+    let Event {
+        which: _,
+        ta_id,
+        on,
+        number,
+    } = row.event;
+    let mut change = |change: &dyn Fn(&mut RowEvent)| {
+        let mut other = row.clone();
+        change(&mut other);
+        take(other)
+    };
+    let (low, high) = (row.at as u32, (row.at >> 32) as u32);
+    lower_limits(&row.limits, &mut |limits| {
+        change(&|other| other.limits = limits)
+    }) || lower(high, &mut |high| {
+        change(&|other| other.at = u64::from(high) << 32 | u64::from(low))
+    }) || lower(low, &mut |low| {
+        change(&|other| other.at = u64::from(high) << 32 | u64::from(low))
+    }) || lower(ta_id, &mut |ta_id| change(&|other| other.event.ta_id = ta_id))
+        || lower(on, &mut |on| change(&|other| other.event.on = on))
+        || lower(number, &mut |number| {
+            change(&|other| other.event.number = number)
+        })
+}
+
+/// Lower limits, or the usual one.
+fn lower_limits(limits: &Limits, take: &mut dyn FnMut(Limits) -> bool) -> bool {
+    take(second::no_limits())
+        || fewer_bits(&limits.of, &mut |fewer| {
+            take(Limits {
+                of: std::array::from_fn(|place| fewer[place]),
+            })
+        })
 }
 
 /// Runs of octets away: all, halves, and so on down to single octets.

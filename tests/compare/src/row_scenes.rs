@@ -1,0 +1,262 @@
+//! Calls on rows: long walks of one row through the events of its sessions, and
+//! single calls on rows of any sort.
+
+use crate::call::{Ask, Call, RowEvent, Said, Seen};
+use crate::numbers::Numbers;
+use crate::{areas, records, rows, scenes};
+use second::{no_limits, Event, Fields, Limits};
+
+/// How many events there are.
+const EVENTS: usize = 6;
+
+const INITIALIZATION: usize = 0;
+const CAPABILITY: usize = 1;
+const LOCAL_CHANGE: usize = 2;
+const CLOSED: usize = 5;
+
+/// A row on its way, from fresh sessions.
+pub struct RowWalk {
+    row: Vec<Fields>,
+    limits: Limits,
+    /// The applications that its sessions have to do with.
+    few: u16,
+    left: usize,
+}
+
+impl RowWalk {
+    pub fn new(numbers: &mut Numbers) -> RowWalk {
+        let few = rows::few(numbers);
+        let length = rows::length(numbers);
+        let row: Vec<Fields> = (0..length).map(|_| rows::fresh(numbers, few)).collect();
+        let mut limits = no_limits();
+        // Low enough to be reached, for some or for all.
+        let highest = numbers.one_of(&[2, 3, length / 2, length]);
+        for limit in &mut limits.of {
+            if numbers.chance(80) {
+                *limit = numbers.between(0, highest) as u8;
+            }
+        }
+        RowWalk {
+            row,
+            limits,
+            few,
+            left: numbers.one_of(&[10, 30, 60]) + 3 * length,
+        }
+    }
+
+    pub fn next(&self, numbers: &mut Numbers) -> Call {
+        let session = numbers.one_of(&self.row);
+        match numbers.weighted(&[80, 7, 7, 2, 2, 1, 1]) {
+            0 => Call::on_row(self.row.clone(), Ask::RowEvent(self.event(numbers))),
+            1 => Call::alone(set_limit(numbers, &self.row, self.few, self.limits)),
+            2 => Call::on_row(self.row.clone(), row_count(numbers, self.few)),
+            3 => Call::on_record(records::stored(&session), Ask::Load),
+            4 => Call::on_record(numbers.octets(records::LENGTH), Ask::Store { session }),
+            5 => Call::alone(Ask::SessionKinds { session }),
+            _ => Call::alone(Ask::SessionRetry { session }),
+        }
+    }
+
+    /// An event of one session, mostly one that its state is for.
+    fn event(&self, numbers: &mut Numbers) -> RowEvent {
+        let at = self.at(numbers);
+        let session = self.row.get(at as usize).copied().unwrap_or_default();
+        // By number; the last is none of the six.
+        let weights = match session.state {
+            records::READY => [60, 2, 10, 3, 8, 2, 1],
+            records::OPEN => [2, 30, 22, 3, 8, 12, 1],
+            records::HELD => [3, 3, 25, 3, 45, 2, 1],
+            _ => [3, 3, 25, 3, 45, 2, 1],
+        };
+        let which = numbers.weighted(&weights);
+        event(numbers, which, at, &session, self.limits, self.few)
+    }
+
+    /// The number of a session, more often of one that waits to be opened.
+    fn at(&self, numbers: &mut Numbers) -> u64 {
+        if numbers.chance(2) {
+            return rows::outside(numbers, self.row.len());
+        }
+        let start = numbers.below(self.row.len());
+        if numbers.chance(50) {
+            for at in (start..self.row.len()).chain(0..start) {
+                if self.row[at].state == records::READY {
+                    return at as u64;
+                }
+            }
+        }
+        start as u64
+    }
+
+    /// Goes on from what was seen.
+    pub fn saw(&mut self, call: &Call, seen: &Seen) {
+        if let Ask::RowEvent(_) = call.ask {
+            self.row.clone_from(&seen.row);
+        }
+        if let Said::Limited(answer) = seen.said {
+            self.limits = answer.limits;
+        }
+        self.left -= 1;
+    }
+
+    pub fn is_over(&self) -> bool {
+        self.left == 0
+    }
+}
+
+/// A call on a row of any sort.
+pub fn single(numbers: &mut Numbers) -> Call {
+    let few = rows::few(numbers);
+    let mut row = rows::any(numbers, few);
+    if numbers.chance(15) {
+        return Call::on_row(row, row_count(numbers, few));
+    }
+    let which = numbers.weighted(&[44, 14, 16, 6, 9, 6, 5]);
+    let at = if row.is_empty() || numbers.chance(12) {
+        rows::outside(numbers, row.len())
+    } else {
+        numbers.below(row.len()) as u64
+    };
+    // Mostly a session that the event is for.
+    let state = match which {
+        INITIALIZATION => records::READY,
+        CAPABILITY | LOCAL_CHANGE | CLOSED => records::OPEN,
+        _ => numbers.one_of(&[records::READY, records::OPEN, records::HELD, records::GONE]),
+    };
+    let mut session = Fields::default();
+    if let Some(place) = row.get_mut(at as usize) {
+        if numbers.chance(75) {
+            *place = rows::in_state(numbers, few, state);
+        }
+        session = *place;
+    }
+    let limits = rows::limits(numbers, &row, few);
+    let event = event(numbers, which, at, &session, limits, few);
+    Call::on_row(row, Ask::RowEvent(event))
+}
+
+/// An event of the session with this number, by its own number or by its name.
+/// By number it is given what it does not need, too, which should make no
+/// difference.
+fn event(
+    numbers: &mut Numbers,
+    which: usize,
+    at: u64,
+    session: &Fields,
+    limits: Limits,
+    few: u16,
+) -> RowEvent {
+    let hint = if numbers.chance(70) {
+        few
+    } else {
+        records::hint(session)
+    };
+    let by_name = which < EVENTS && numbers.flag();
+    let ta_id = scenes::ta_id_to_change(numbers, hint);
+    let on = scenes::on_or_off(numbers, session, ta_id);
+    RowEvent {
+        by_name,
+        at,
+        event: Event {
+            which: event_number(numbers, which),
+            ta_id,
+            on: on_number(numbers, on),
+            number: scenes::hello_number(numbers, session.hello),
+        },
+        limits,
+        area: match which {
+            INITIALIZATION | CAPABILITY => scenes::mostly_good(numbers, hint),
+            _ if !by_name && numbers.chance(30) => areas::any(numbers, hint),
+            _ => Vec::new(),
+        },
+        room: match which {
+            LOCAL_CHANGE => scenes::room(numbers),
+            _ if !by_name && numbers.chance(30) => scenes::room(numbers),
+            _ => Vec::new(),
+        },
+    }
+}
+
+/// The number of an event, or one that is no event's.
+fn event_number(numbers: &mut Numbers, which: usize) -> u32 {
+    if which < EVENTS {
+        return which as u32;
+    }
+    let known = numbers.below(EVENTS) as u32;
+    let choices = [
+        6,
+        6,
+        7,
+        255,
+        known | 0x8,
+        known | 0x100,
+        known | 0x1_0000,
+        known | 0x8000_0000,
+        u32::MAX,
+    ];
+    numbers.one_of(&choices)
+}
+
+/// Any number but 0 is on.
+fn on_number(numbers: &mut Numbers, on: bool) -> u32 {
+    match on {
+        true if numbers.flag() => 1,
+        true => numbers.one_of(&[2, 3, 0x80, 0x100, 0x1_0000, 0x8000_0000, u32::MAX]),
+        false => 0,
+    }
+}
+
+fn row_count(numbers: &mut Numbers, few: u16) -> Ask {
+    Ask::RowCount {
+        ta_id: scenes::ta_id_to_change(numbers, few),
+    }
+}
+
+fn set_limit(numbers: &mut Numbers, row: &[Fields], few: u16, limits: Limits) -> Ask {
+    let ta_id = scenes::ta_id_to_change(numbers, few);
+    let count = match ta_id {
+        1..=13 => rows::counts(row)[ta_id as usize - 1],
+        _ => 0,
+    };
+    Ask::SetLimit {
+        limits,
+        ta_id,
+        limit: rows::limit_to_set(numbers, count),
+    }
+}
+
+/// A call that serves rows and is on none: sessions to and from records, limits.
+pub fn beside_a_row(numbers: &mut Numbers) -> Call {
+    match numbers.weighted(&[30, 30, 5, 20, 8, 7]) {
+        0 => Call::on_record(records::any(numbers), Ask::Load),
+        1 => {
+            let length = if numbers.chance(80) {
+                records::LENGTH
+            } else {
+                records::any_length(numbers)
+            };
+            let session = any_session(numbers);
+            Call::on_record(numbers.octets(length), Ask::Store { session })
+        }
+        2 => Call::alone(Ask::NoLimits),
+        3 => {
+            let few = rows::few(numbers);
+            let limits = rows::limits(numbers, &[], few);
+            Call::alone(set_limit(numbers, &[], few, limits))
+        }
+        4 => Call::alone(Ask::SessionKinds {
+            session: any_session(numbers),
+        }),
+        _ => Call::alone(Ask::SessionRetry {
+            session: any_session(numbers),
+        }),
+    }
+}
+
+fn any_session(numbers: &mut Numbers) -> Fields {
+    if numbers.chance(60) {
+        records::sound_session(numbers)
+    } else {
+        records::damaged_session(numbers)
+    }
+}
