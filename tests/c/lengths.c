@@ -113,6 +113,29 @@ static void rows_of_sessions(void)
     }
 }
 
+/* Rows whose lengths would be right if 8 or 16 bits were all that counts; 11 before 10. */
+static void rows_far_over(void)
+{
+    static struct tacit_session fresh_row[65537];
+    static const size_t lengths[] = {65, 256, 257, 320, 65536, 65537};
+    const struct tacit_limits limits = tacit_no_limits();
+    for (size_t i = 0; i < 2 * sizeof lengths / sizeof *lengths; i++) {
+        size_t length = lengths[i / 2], size = length * sizeof *fresh_row;
+        trying("a row of %zu sessions", length);
+        fresh_row[length - 1].state = i % 2 ? TACIT_NO_STATE : TACIT_READY;
+        const uint8_t *octets = (const uint8_t *)fresh_row;
+        struct tacit_session *row = (void *)lend(ROW, octets, size);
+        CHECK(tacit_row_count(row, length, 1).refusal == 11);
+        CHECK(tacit_row_hello(row, length, 0, 1).refusal == 11);
+        CHECK(tacit_row_initialization(row, length, length - 1, limits, NULL, 0).refusal == 11);
+        CHECK(tacit_row_mismatch(row, length, length).refusal == 11);
+        CHECK(margin_kept(ROW, size));
+        CHECK(row[0].state == TACIT_READY && row[0].flags == 0 && row[0].hello == 0);
+        CHECK(row[length - 1].state == fresh_row[length - 1].state);
+        fresh_row[length - 1].state = TACIT_READY;
+    }
+}
+
 /* The longest TLV of a type that is passed over, to make up this length. */
 static void fill(uint8_t *area, size_t length)
 {
@@ -281,10 +304,6 @@ static void rows_beyond_32_bits(void)
     CHECK(tacit_store(session, record, right) == 0);
     CHECK(tacit_load(record, more + right).refusal == 10);
 
-    /* No memory holds a row of that many, but its length is asked before it is looked at. */
-    CHECK(tacit_row_count(&session, more + 1, 7).refusal == 11);
-    CHECK(tacit_row_hello(&session, more + 1, 0, 1).refusal == 11);
-    CHECK(tacit_row_hello(&session, SIZE_MAX, 0, 1).refusal == 11);
     CHECK(tacit_row_hello(&session, 1, more, 1).refusal == 11);
     CHECK(tacit_row_initialization(&session, 1, 0, limits, area, more).refusal == 1);
     struct octets opening = hex(dynamic_fec129);
@@ -304,10 +323,11 @@ void lengths(void)
     test("NULL with length 0, for rows", no_row_at_all);
     test("records of 0 to 64 octets", records);
     test("rows of 0 to 72 sessions", rows_of_sessions);
+    test("rows of far more than 64 sessions", rows_far_over);
     test("areas around 4,096 octets and far over", areas);
     test("areas full of elements", full_areas);
     test("rooms of 0 to 40 octets", rooms);
     test("rooms of 0 to 40 octets, in rows", rooms_in_rows);
     test("lengths beyond 32 bits", beyond_32_bits);
-    test("lengths of rows beyond 32 bits", rows_beyond_32_bits);
+    test("lengths beyond 32 bits, in rows", rows_beyond_32_bits);
 }

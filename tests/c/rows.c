@@ -114,60 +114,67 @@ static void counting(void)
     CHECK(row_count(&row, 13).count == 2 && row_count(&row, 1).count == 0);
 }
 
-/* Limits of 4 and 7, how many use them, what the next peer lists, and the outcome. */
+struct opening {
+    uint8_t limit_4, limit_7;  /* the limits of 4 and 7 */
+    uint8_t of_4, of_7;        /* how many sessions use them */
+    const char *area;          /* of the next Initialization */
+    uint8_t outcome;
+};
+
+static const struct opening all_openings[] = {
+    {2, 64, 0, 0, lists_4, TACIT_DONE},
+    {2, 64, 1, 0, lists_4, TACIT_DONE},
+    {2, 64, 2, 0, lists_4, TACIT_AT_LIMIT},
+    {2, 64, 3, 0, lists_4, TACIT_AT_LIMIT},
+    {1, 64, 1, 5, lists_4, TACIT_AT_LIMIT},
+    {0, 64, 0, 0, lists_4, TACIT_AT_LIMIT},
+    /* The other application has a limit of its own. */
+    {2, 64, 2, 0, lists_7, TACIT_DONE},
+    {2, 0, 1, 0, lists_4, TACIT_DONE},
+    {64, 3, 5, 3, lists_7, TACIT_AT_LIMIT},
+    /* One common application with room is enough. */
+    {2, 3, 2, 3, lists_both, TACIT_AT_LIMIT},
+    {2, 3, 1, 3, lists_both, TACIT_DONE},
+    {2, 3, 2, 2, lists_both, TACIT_DONE},
+    {0, 64, 0, 0, lists_both, TACIT_DONE},
+    {0, 0, 0, 0, lists_both, TACIT_AT_LIMIT},
+    /* Listed and not enabled here, unknown, or listed twice: that gives no room. */
+    {2, 64, 2, 0, "850F000D 80 00058000 00048000 000E8000", TACIT_AT_LIMIT},
+    {2, 64, 2, 0, "850F0009 80 00040000 00048000", TACIT_AT_LIMIT},
+    /* Without a common application, or out of force, no limit is asked. */
+    {0, 0, 0, 0, lists_none, TACIT_MISMATCH},
+    {0, 0, 0, 0, "850F0005 80 00058000", TACIT_MISMATCH},
+    {2, 2, 2, 2, lists_none, TACIT_MISMATCH},
+    {0, 0, 0, 0, no_tac, TACIT_DONE},
+    {0, 0, 0, 0, "", TACIT_DONE},
+    /* 64, and what acts as 64. */
+    {64, 64, 63, 0, lists_4, TACIT_DONE},
+    {63, 64, 63, 0, lists_4, TACIT_AT_LIMIT},
+    {63, 64, 62, 0, lists_4, TACIT_DONE},
+    {65, 0, 63, 0, lists_4, TACIT_DONE},
+    {128, 0, 63, 0, lists_both, TACIT_DONE},
+    {255, 0, 63, 0, lists_4, TACIT_DONE},
+};
+
+static void expect_opening(const struct opening *wanted)
+{
+    trying("limits %u and %u, used by %u and %u, area %s", wanted->limit_4, wanted->limit_7,
+           wanted->of_4, wanted->of_7, wanted->area);
+    struct sessions row = with_users(wanted->of_4, wanted->of_7);
+    size_t last = row.length - 1;
+    struct tacit_limits limits = limits_of(wanted->limit_4, wanted->limit_7);
+    struct tacit_answer answer = row_initialization(&row, last, limits, wanted->area);
+    CHECK(answer.refusal == 0 && answer.outcome == wanted->outcome);
+    CHECK(answer.lost == 0 && answer.written == 0);
+    bool done = wanted->outcome == TACIT_DONE;
+    CHECK(row.at[last].state == (done ? TACIT_OPEN : TACIT_READY));
+    CHECK((answer.gained != 0) == done);
+}
+
 static void openings(void)
 {
-    static const struct {
-        uint8_t limit_4, limit_7, of_4, of_7;
-        const char *area;
-        uint8_t outcome;
-    } rows[] = {
-        {2, 64, 0, 0, lists_4, TACIT_DONE},
-        {2, 64, 1, 0, lists_4, TACIT_DONE},
-        {2, 64, 2, 0, lists_4, TACIT_AT_LIMIT},
-        {2, 64, 3, 0, lists_4, TACIT_AT_LIMIT},
-        {1, 64, 1, 5, lists_4, TACIT_AT_LIMIT},
-        {0, 64, 0, 0, lists_4, TACIT_AT_LIMIT},
-        /* The other application has a limit of its own. */
-        {2, 64, 2, 0, lists_7, TACIT_DONE},
-        {2, 0, 1, 0, lists_4, TACIT_DONE},
-        {64, 3, 5, 3, lists_7, TACIT_AT_LIMIT},
-        /* One common application with room is enough. */
-        {2, 3, 2, 3, lists_both, TACIT_AT_LIMIT},
-        {2, 3, 1, 3, lists_both, TACIT_DONE},
-        {2, 3, 2, 2, lists_both, TACIT_DONE},
-        {0, 64, 0, 0, lists_both, TACIT_DONE},
-        {0, 0, 0, 0, lists_both, TACIT_AT_LIMIT},
-        /* Listed here and not enabled, or unknown, gives no room. */
-        {2, 64, 2, 0, "850F000D 80 00058000 00048000 000E8000", TACIT_AT_LIMIT},
-        {2, 64, 2, 0, "850F0009 80 00040000 00048000", TACIT_AT_LIMIT},
-        /* Without a common application, or out of force, no limit is asked. */
-        {0, 0, 0, 0, lists_none, TACIT_MISMATCH},
-        {0, 0, 0, 0, "850F0005 80 00058000", TACIT_MISMATCH},
-        {2, 2, 2, 2, lists_none, TACIT_MISMATCH},
-        {0, 0, 0, 0, no_tac, TACIT_DONE},
-        {0, 0, 0, 0, "", TACIT_DONE},
-        /* 64, and what acts as 64. */
-        {64, 64, 63, 0, lists_4, TACIT_DONE},
-        {63, 64, 63, 0, lists_4, TACIT_AT_LIMIT},
-        {63, 64, 62, 0, lists_4, TACIT_DONE},
-        {65, 0, 63, 0, lists_4, TACIT_DONE},
-        {128, 0, 63, 0, lists_both, TACIT_DONE},
-        {255, 0, 63, 0, lists_4, TACIT_DONE},
-    };
-    for (size_t i = 0; i < sizeof rows / sizeof *rows; i++) {
-        trying("limits %u and %u, used by %u and %u, area %s", rows[i].limit_4, rows[i].limit_7,
-               rows[i].of_4, rows[i].of_7, rows[i].area);
-        struct sessions row = with_users(rows[i].of_4, rows[i].of_7);
-        size_t last = row.length - 1;
-        struct tacit_limits limits = limits_of(rows[i].limit_4, rows[i].limit_7);
-        struct tacit_answer answer = row_initialization(&row, last, limits, rows[i].area);
-        CHECK(answer.refusal == 0 && answer.outcome == rows[i].outcome);
-        CHECK(answer.lost == 0 && answer.written == 0);
-        bool done = rows[i].outcome == TACIT_DONE;
-        CHECK(row.at[last].state == (done ? TACIT_OPEN : TACIT_READY));
-        CHECK((answer.gained != 0) == done);
-    }
+    for (size_t i = 0; i < sizeof all_openings / sizeof *all_openings; i++)
+        expect_opening(&all_openings[i]);
 }
 
 /* Turned away, a session is left as a mismatch leaves it, by what the end is. */
@@ -328,7 +335,25 @@ static void states(void)
     }
 }
 
-/* One session that is not sound, whichever it is and in whatever way, refuses every event. */
+/* One session that is not sound, wherever it is, refuses every event. */
+static void expect_unsound(struct tacit_session session)
+{
+    struct record record = {{7}, TACIT_RECORD_LENGTH};
+    CHECK(store(session, &record) == 10);
+    CHECK(tacit_session_kinds(session).refusal == 10 && tacit_session_kinds(session).kinds == 0);
+    CHECK(tacit_session_retry(session).refusal == 10);
+    CHECK(tacit_session_retry(session).interval == 0);
+    for (size_t place = 0; place < 3; place++) {
+        struct sessions row = responders(3);
+        row.at[place] = session;
+        CHECK(row_count(&row, 4).refusal == 10);
+        for (uint32_t which = 0; which < 7; which++) {
+            struct row_call call = {.at = 1, .event = {which, 5, 1, 9}};
+            CHECK(row_event(&row, call).refusal == 10);
+        }
+    }
+}
+
 static void unsound_anywhere(void)
 {
     static const struct tacit_session rows[] = {
@@ -352,22 +377,8 @@ static void unsound_anywhere(void)
         {.state = TACIT_GONE, .flags = 0x4F},
     };
     for (size_t i = 0; i < sizeof rows / sizeof *rows; i++) {
-        for (size_t place = 0; place < 3; place++) {
-            trying("unsound session %zu in place %zu", i, place);
-            struct sessions row = responders(3);
-            row.at[place] = rows[i];
-            for (uint32_t which = 0; which < 7; which++) {
-                struct row_call call = {.at = 1, .event = {which, 5, 1, 9}};
-                CHECK(row_event(&row, call).refusal == 10);
-            }
-            CHECK(row_count(&row, 4).refusal == 10);
-        }
-        struct record record = {{7}, TACIT_RECORD_LENGTH};
-        CHECK(store(rows[i], &record) == 10);
-        CHECK(tacit_session_kinds(rows[i]).refusal == 10);
-        CHECK(tacit_session_kinds(rows[i]).kinds == 0);
-        CHECK(tacit_session_retry(rows[i]).refusal == 10);
-        CHECK(tacit_session_retry(rows[i]).interval == 0);
+        trying("session %zu that is not sound", i);
+        expect_unsound(rows[i]);
     }
 }
 

@@ -158,22 +158,31 @@ static inline void make_row_call(const struct row_given *given, uint8_t *record,
 enum { GUARDS = 69 };
 
 /*
- * The guard sessions in the two places: before more guards a sound one that uses
- * every application, so that it shows if one is counted; before the page that
- * cannot be touched one that is not sound.
+ * The guard sessions in the two places: where more of them follow, sound ones that
+ * use every application, so that it shows if one is counted; in front of the page
+ * that cannot be touched, ones that are not sound.
  */
-static const struct tacit_session guard_sessions[2] = {
-    {.state = TACIT_OPEN,
-     .flags = TACIT_FLAG_ACTIVE | TACIT_FLAG_USES_TAC | TACIT_FLAG_IN_FORCE,
-     .enabled = TACIT_ALL_APPS,
-     .listed = TACIT_ALL_APPS},
-    {.state = 0x5A, .flags = 0x5A, .disabled = 0x5A, .hello = 0x5A5A5A5A, .next = 0x5A5A5A5A},
-};
+static inline const struct tacit_session *guards_of(bool to_the_end)
+{
+    static const struct tacit_session each[2] = {
+        {.state = TACIT_OPEN,
+         .flags = TACIT_FLAG_ACTIVE | TACIT_FLAG_USES_TAC | TACIT_FLAG_IN_FORCE,
+         .enabled = TACIT_ALL_APPS,
+         .listed = TACIT_ALL_APPS},
+        {.state = 0x5A, .flags = 0x5A, .disabled = 0x5A, .hello = 0x5A5A5A5A, .next = 0x5A5A5A5A},
+    };
+    static struct tacit_session all[2][GUARDS];
+    if (all[to_the_end][0].state == 0) {
+        for (size_t i = 0; i < GUARDS; i++)
+            memcpy(&all[to_the_end][i], &each[to_the_end], sizeof each[0]);
+    }
+    return all[to_the_end];
+}
 
 /* Puts a row into a place, with padding that is another one in the other place. */
 static inline void lend_row(struct place *place, struct octets row, bool to_the_end)
 {
-    size_t count = row.length / FIELDS, behind = to_the_end ? 0 : GUARDS;
+    size_t count = row.length / FIELDS;
     struct tacit_session *sessions = (struct tacit_session *)(void *)place->start + GUARDS;
     if (to_the_end)
         sessions = (struct tacit_session *)(void *)place->end - count;
@@ -183,26 +192,18 @@ static inline void lend_row(struct place *place, struct octets row, bool to_the_
     memset(place->lent, to_the_end ? 0xFF : 0x00, place->length);
     for (size_t i = 0; i < count; i++)
         get_session(sessions + i, row.start + FIELDS * i);
-    const struct tacit_session *guard = &guard_sessions[to_the_end];
-    for (size_t i = 1; i <= GUARDS; i++)
-        memcpy(sessions - i, guard, sizeof *guard);
-    for (size_t i = 0; i < behind; i++)
-        memcpy(sessions + count + i, guard, sizeof *guard);
+    memcpy(sessions - GUARDS, guards_of(to_the_end), GUARDS * sizeof *sessions);
+    if (!to_the_end)
+        memcpy(sessions + count, guards_of(to_the_end), GUARDS * sizeof *sessions);
 }
 
 /* Is every guard session as it was? Padding too: nothing may be written there. */
 static inline bool row_guarded(const struct place *place)
 {
-    const struct tacit_session *guard = &guard_sessions[place->to_the_end];
-    const uint8_t *before = place->lent - GUARDS * sizeof *guard;
-    const uint8_t *behind = place->lent + place->length;
-    for (size_t i = 0; i < GUARDS; i++) {
-        if (memcmp(before + i * sizeof *guard, guard, sizeof *guard) != 0)
-            return false;
-        if (!place->to_the_end && memcmp(behind + i * sizeof *guard, guard, sizeof *guard) != 0)
-            return false;
-    }
-    return true;
+    const struct tacit_session *guards = guards_of(place->to_the_end);
+    size_t length = GUARDS * sizeof *guards;
+    return memcmp(place->lent - length, guards, length) == 0 &&
+           (place->to_the_end || memcmp(place->lent + place->length, guards, length) == 0);
 }
 
 /* Writes the fields of a row in its place, FIELDS octets for each session. */

@@ -10,6 +10,20 @@ struct tacit_answer __real_tacit_hello(uint8_t *record, size_t record_len, uint3
 struct tacit_answer __wrap_tacit_hello(uint8_t *record, size_t record_len, uint32_t number);
 struct tacit_reading __real_tacit_read(const uint8_t *area, size_t area_len);
 struct tacit_reading __wrap_tacit_read(const uint8_t *area, size_t area_len);
+struct tacit_answer __real_tacit_row_event(struct tacit_session *row, size_t row_len, size_t at,
+                                           struct tacit_event event, struct tacit_limits limits,
+                                           const uint8_t *area, size_t area_len, uint8_t *room,
+                                           size_t room_len);
+struct tacit_answer __wrap_tacit_row_event(struct tacit_session *row, size_t row_len, size_t at,
+                                           struct tacit_event event, struct tacit_limits limits,
+                                           const uint8_t *area, size_t area_len, uint8_t *room,
+                                           size_t room_len);
+struct tacit_count __real_tacit_row_count(const struct tacit_session *row, size_t row_len,
+                                          uint32_t ta_id);
+struct tacit_count __wrap_tacit_row_count(const struct tacit_session *row, size_t row_len,
+                                          uint32_t ta_id);
+struct tacit_loaded __real_tacit_load(const uint8_t *record, size_t record_len);
+struct tacit_loaded __wrap_tacit_load(const uint8_t *record, size_t record_len);
 
 static unsigned calls;
 
@@ -51,4 +65,69 @@ struct tacit_reading __wrap_tacit_read(const uint8_t *area, size_t area_len)
         reading.dynamic = 2;
 #endif
     return reading;
+}
+
+struct tacit_answer __wrap_tacit_row_event(struct tacit_session *row, size_t row_len, size_t at,
+                                           struct tacit_event event, struct tacit_limits limits,
+                                           const uint8_t *area, size_t area_len, uint8_t *room,
+                                           size_t room_len)
+{
+    struct tacit_answer answer = __real_tacit_row_event(row, row_len, at, event, limits, area,
+                                                        area_len, room, room_len);
+#if FAULT == 9 /* writes the session in front of the row */
+    if (answer.outcome == 1)
+        row[-1].next ^= 1;
+#elif FAULT == 10 /* writes the session behind the row */
+    if (answer.outcome == 1)
+        row[row_len].flags ^= 1;
+#elif FAULT == 11 /* writes the session that a number outside the row would mean */
+    if (answer.refusal == 11 && at > row_len && at < row_len + 64)
+        row[at].state ^= 1;
+#elif FAULT == 12 /* writes another session of the row */
+    if (answer.outcome == 1 && row_len > 1)
+        row[(at + 1) % row_len].next = 0x0BADBAD0;
+#elif FAULT == 13 /* reads the session behind the row, and makes nothing of it */
+    if (answer.outcome == 1)
+        (void)*(const volatile uint8_t *)&row[row_len].state;
+#elif FAULT == 14 /* reads padding, and makes something of it */
+    if (answer.outcome == 1)
+        answer.lost |= *((const volatile uint8_t *)&row[at].enabled - 1) & 1;
+#elif FAULT == 15 /* writes into an area */
+    if (answer.refusal == 7 && area_len > 0)
+        *(uint8_t *)area ^= 1;
+#elif FAULT == 16 /* writes an octet behind the room */
+    if (answer.written > 0)
+        room[room_len] ^= 1;
+#elif FAULT == 17 /* writes padding, which is its right */
+    for (size_t i = 0; answer.refusal == 0 && i < row_len; i++) {
+        *((uint8_t *)&row[i].enabled - 1) ^= 0x55;
+        *((uint8_t *)&row[i].hello - 1) ^= 0x55;
+        *((uint8_t *)&row[i].hello - 2) ^= 0x55;
+    }
+#endif
+    return answer;
+}
+
+struct tacit_count __wrap_tacit_row_count(const struct tacit_session *row, size_t row_len,
+                                          uint32_t ta_id)
+{
+    struct tacit_count answer = __real_tacit_row_count(row, row_len, ta_id);
+#if FAULT == 18 /* writes into a row that is only counted */
+    if (answer.count > 0)
+        ((struct tacit_session *)row)->hello ^= 1;
+#elif FAULT == 19 /* counts the session in front of the row too */
+    if (answer.refusal == 0)
+        answer.count += row[-1].state == TACIT_OPEN;
+#endif
+    return answer;
+}
+
+struct tacit_loaded __wrap_tacit_load(const uint8_t *record, size_t record_len)
+{
+    struct tacit_loaded answer = __real_tacit_load(record, record_len);
+#if FAULT == 20 /* writes into a record that is only loaded */
+    if (answer.refusal == 0)
+        *(uint8_t *)record ^= 1;
+#endif
+    return answer;
 }

@@ -10,6 +10,8 @@ use Rattle.choice.proofs.Determined.{by-equation}
 use Rattle.record.proofs.encode.Reads as encode
 use Rattle.record.proofs.decode.Reads as decode
 use Rattle.record.proofs.carry.Reads as carry
+use Rattle.record.proofs.load.Reads as load
+use Rattle.record.proofs.store.Reads as store
 
 pub encode-determined : (κs : _) (a r r′ s s′ : _) → encode.Post κs a r s → encode.Post κs a r′ s′ → s .1 .0 .now ≡ s′ .1 .0 .now
 encode-determined κs a r r′ s s′ p q = p ∙ sym q
@@ -23,3 +25,9 @@ carried-same after l r r′ k k′ p q = (p .answer ∙ sym (q .answer), p .octe
 
 pub carry-determined : (κs : _) (a r r′ s s′ : _) → carry.Post κs a r s → carry.Post κs a r′ s′ → (r ≡ r′) × (s .0 .now ≡ s′ .0 .now)
 carry-determined κs a r r′ s s′ = carried-same _ _ r r′ _ _
+
+pub load-determined : (κs : _) → Determined (load.Post κs)
+load-determined κs = by-equation _
+
+pub store-determined : (κs : _) (a r r′ s s′ : _) → store.Post κs a r s → store.Post κs a r′ s′ → (r ≡ r′) × (s .1 .0 .now ≡ s′ .1 .0 .now)
+store-determined κs a r r′ s s′ p q = (p .0 ∙ sym (q .0), p .1 ∙ sym (q .1))

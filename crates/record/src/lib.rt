@@ -3,10 +3,18 @@ ghost use mathlib.Core.Path.{_≡_};
 ghost use Prim.Native.Nat.{_<_};
 ghost use lib.ListN.{length};
 ghost use Rattle.record.specs.Carried.{Carried};
+ghost use Rattle.record.specs.Loaded.{loaded, storeRefusal, storedSound};
 ghost use Rattle.record.specs.Record.{encoded, stored, headed, fields, noSession, decoded};
 use session::After;
 use session::Answer;
 use session::Session;
+
+// A session read from a record.
+#[repr(C)]
+pub struct Loaded {
+    pub refusal: u8,
+    pub session: Session,
+}
 
 // How many octets a record has.
 pub const LENGTH: usize = 22;
@@ -125,4 +133,35 @@ pub fn carry(kept: &mut [u8], after: After) -> Answer
         return answer;
     }
     answer
+}
+
+// The session of a sound record; of any other, 10 and no session.
+pub fn load(kept: &[u8]) -> Loaded
+    ensures { λ r. ⌜ r ≡ loaded (now (kept .entry)) ⌝ }
+{
+    let session = decode(kept);
+    if session.sound() {
+        return Loaded {
+            refusal: 0,
+            session,
+        };
+    }
+    Loaded {
+        refusal: 10,
+        session: no_session(),
+    }
+}
+
+// Stores a sound session in a record of 22 octets, or answers 10.
+pub fn store(s: Session, kept: &mut [u8]) -> u8
+    ensures { λ r. ⌜ (r ≡ storeRefusal s (now (kept .entry))) × (now (kept .exit) ≡ storedSound s (now (kept .entry))) ⌝ }
+{
+    if s.sound() {
+        if kept.len() == LENGTH {
+            encode(s, kept);
+            return 0;
+        }
+        return 10;
+    }
+    10
 }

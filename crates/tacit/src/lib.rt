@@ -9,9 +9,17 @@ ghost use Rattle.session.specs.Events.{initialization, capability, localChange,
 ghost use Rattle.session.specs.Questions.{permittedKinds, permission, retryInterval};
 ghost use Rattle.record.specs.Record.{decoded};
 ghost use Rattle.record.specs.Carried.{Carried};
+ghost use Rattle.record.specs.Loaded.{loaded, storeRefusal, storedSound};
+ghost use Rattle.row.specs.Limits.{noLimits, limited};
+ghost use Rattle.row.specs.Row.{eventAt, rowAfter, roomAfter as rowRoom, countOf};
 ghost use Rattle.tacit.specs.Creation.{CreatedIn};
 use area::Reading;
 use kinds::TaId;
+use record::Loaded;
+use row::Count;
+use row::Event;
+use row::Limited;
+use row::Limits;
 use session::Answer;
 use session::Created;
 use session::Kinds;
@@ -152,4 +160,62 @@ pub extern "C" fn tacit_sound(kept: &[u8]) -> bool
     ensures { λ r. ⌜ r ≡ sound (decoded (now (kept .entry))) ⌝ }
 {
     record::decode(kept).sound()
+}
+
+#[no_mangle]
+pub extern "C" fn tacit_load(kept: &[u8]) -> Loaded
+    ensures { λ r. ⌜ r ≡ loaded (now (kept .entry)) ⌝ }
+{
+    record::load(kept)
+}
+
+#[no_mangle]
+pub extern "C" fn tacit_store(session: Session, kept: &mut [u8]) -> u8
+    ensures { λ r. ⌜ (r ≡ storeRefusal session (now (kept .entry))) × (now (kept .exit) ≡ storedSound session (now (kept .entry))) ⌝ }
+{
+    record::store(session, kept)
+}
+
+#[no_mangle]
+pub extern "C" fn tacit_no_limits() -> Limits
+    ensures { λ r. ⌜ r ≡ noLimits ⌝ }
+{
+    Limits::none()
+}
+
+#[no_mangle]
+pub extern "C" fn tacit_set_limit(limits: Limits, ta_id: u32, limit: u32) -> Limited
+    ensures { λ r. ⌜ r ≡ limited limits «ta_id» limit ⌝ }
+{
+    limits.with(TaId(ta_id), limit)
+}
+
+// The row is lent: one pass over it, and the answer by value.
+#[no_mangle]
+pub extern "C" fn tacit_row_count(row: &[Session], ta_id: u32) -> Count
+    ensures { λ r. ⌜ r ≡ countOf (now (row .entry)) «ta_id» ⌝ }
+{
+    let tally = row::tally_of(row);
+    tally.count(row.len(), TaId(ta_id))
+}
+
+// The row is lent: one pass over it, then the session is taken out, the event happens to it by value, and it is stored back.
+#[no_mangle]
+pub extern "C" fn tacit_row_event(
+    row: &mut [Session],
+    at: usize,
+    event: Event,
+    limits: Limits,
+    area: &[u8],
+    room: &mut [u8],
+) -> Answer
+    ensures { λ r. ⌜ (r ≡ eventAt (now (row .entry)) at event limits (now (area .entry)) (length (now (room .entry))) .answer) × (now (row .exit) ≡ rowAfter (now (row .entry)) at event limits (now (area .entry)) (length (now (room .entry)))) × (now (room .exit) ≡ rowRoom (now (row .entry)) at event (now (room .entry))) ⌝ }
+{
+    let tally = row::tally_of(row);
+    if at < row.len() {
+        let after = row::event_in(row[at], row.len(), tally, event, limits, area, room);
+        row[at] = after.session;
+        return after.answer;
+    }
+    row::outside()
 }

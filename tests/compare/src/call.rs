@@ -133,7 +133,7 @@ pub fn quieten_second() {
 }
 
 /// The names of events by their numbers, in a row.
-const ROW_EVENTS: [&str; 6] = [
+pub const ROW_EVENTS: [&str; 6] = [
     "row_initialization",
     "row_capability",
     "row_local_change",
@@ -158,7 +158,7 @@ impl RowEvent {
             on,
             number,
         } = self.event;
-        // A row number has the width of the library's processor.
+        // Where a number is narrower, it is outside the row all the same.
         let at = usize::try_from(self.at).unwrap_or(usize::MAX);
         if !self.by_name {
             return second::row_event(row, at, self.event, self.limits, &self.area, room);

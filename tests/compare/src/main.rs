@@ -10,7 +10,9 @@
 mod areas;
 mod call;
 mod library;
+mod notes;
 mod numbers;
+mod reachable;
 mod records;
 mod row_scenes;
 mod rows;

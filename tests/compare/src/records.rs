@@ -105,6 +105,10 @@ pub fn sound_session(numbers: &mut Numbers) -> Fields {
     if numbers.flag() {
         flags |= USES_TAC;
     }
+    // Gone takes three of them together.
+    if numbers.chance(15) {
+        flags |= INITIATING | ACTIVE | DROPS;
+    }
     let drops = flags & (INITIATING | ACTIVE | DROPS) == INITIATING | ACTIVE | DROPS;
     let state = if flags & ACTIVE == 0 {
         numbers.one_of(&[READY, OPEN, OPEN])

@@ -117,15 +117,10 @@ pub fn single(numbers: &mut Numbers) -> Call {
     } else {
         numbers.below(row.len()) as u64
     };
-    // Mostly a session that the event is for.
-    let state = match which {
-        INITIALIZATION => records::READY,
-        CAPABILITY | LOCAL_CHANGE | CLOSED => records::OPEN,
-        _ => numbers.one_of(&[records::READY, records::OPEN, records::HELD, records::GONE]),
-    };
     let mut session = Fields::default();
     if let Some(place) = row.get_mut(at as usize) {
-        if numbers.chance(75) {
+        if numbers.chance(85) {
+            let state = state_for(numbers, which);
             *place = rows::in_state(numbers, few, state);
         }
         session = *place;
@@ -133,6 +128,15 @@ pub fn single(numbers: &mut Numbers) -> Call {
     let limits = rows::limits(numbers, &row, few);
     let event = event(numbers, which, at, &session, limits, few);
     Call::on_row(row, Ask::RowEvent(event))
+}
+
+/// Mostly a state that the event is for.
+fn state_for(numbers: &mut Numbers, which: usize) -> u8 {
+    match which {
+        INITIALIZATION if numbers.chance(80) => records::READY,
+        CAPABILITY | LOCAL_CHANGE | CLOSED if numbers.chance(70) => records::OPEN,
+        _ => numbers.one_of(&[records::READY, records::OPEN, records::HELD, records::GONE]),
+    }
 }
 
 /// An event of the session with this number, by its own number or by its name.
@@ -146,10 +150,11 @@ fn event(
     limits: Limits,
     few: u16,
 ) -> RowEvent {
-    let hint = if numbers.chance(70) {
-        few
-    } else {
-        records::hint(session)
+    let hint = match numbers.below(4) {
+        0 => records::hint(session),
+        // What the session uses: without it there may be a mismatch.
+        1 => session.enabled & session.listed & 0x1FFF,
+        _ => few,
     };
     let by_name = which < EVENTS && numbers.flag();
     let ta_id = scenes::ta_id_to_change(numbers, hint);

@@ -6,7 +6,7 @@ use crate::records::{self, IN_FORCE, OPEN, READY, USES_TAC};
 use second::{Fields, Limits};
 
 /// The most sessions that a row may have.
-const LONGEST: usize = 64;
+pub const LONGEST: usize = 64;
 
 const APPLICATIONS: usize = 13;
 
@@ -30,6 +30,9 @@ pub fn fresh(numbers: &mut Numbers, few: u16) -> Fields {
     let mut flags = numbers.octet() & (records::INITIATING | records::ACTIVE | records::DROPS);
     if numbers.chance(85) {
         flags |= USES_TAC;
+    }
+    if numbers.chance(15) {
+        flags |= records::INITIATING | records::ACTIVE | records::DROPS;
     }
     let enabled = if numbers.chance(80) {
         some_of(numbers, few)
@@ -66,6 +69,16 @@ fn session(numbers: &mut Numbers, few: u16) -> Fields {
     session
 }
 
+/// A sound session that uses applications.
+fn user(numbers: &mut Numbers, few: u16) -> Fields {
+    such(numbers, few, |session| session.flags & IN_FORCE != 0)
+}
+
+/// A sound session in this state.
+pub fn in_state(numbers: &mut Numbers, few: u16, state: u8) -> Fields {
+    such(numbers, few, |session| session.state == state)
+}
+
 /// A sound session of this sort.
 fn such(numbers: &mut Numbers, few: u16, fits: impl Fn(&Fields) -> bool) -> Fields {
     loop {
@@ -76,14 +89,9 @@ fn such(numbers: &mut Numbers, few: u16, fits: impl Fn(&Fields) -> bool) -> Fiel
     }
 }
 
-/// A sound session in this state.
-pub fn in_state(numbers: &mut Numbers, few: u16, state: u8) -> Fields {
-    such(numbers, few, |session| session.state == state)
-}
-
 /// A length for a row, often one at the edge.
 fn any_length(numbers: &mut Numbers) -> usize {
-    match numbers.weighted(&[5, 10, 10, 35, 12, 7, 11, 6, 4]) {
+    match numbers.weighted(&[5, 10, 10, 33, 11, 7, 14, 6, 4]) {
         0 => 0,
         1 => 1,
         2 => 2,
@@ -111,10 +119,19 @@ pub fn length(numbers: &mut Numbers) -> usize {
 /// A row of any sort, sound most of the time.
 pub fn any(numbers: &mut Numbers, few: u16) -> Vec<Fields> {
     let length = any_length(numbers);
-    // A crowd in which each session uses something.
-    let crowd = numbers.chance(30);
+    let sort = numbers.weighted(&[68, 12, 20]);
     let mut row: Vec<Fields> = (0..length)
-        .map(|_| such(numbers, few, |one| !crowd || one.flags & IN_FORCE != 0))
+        .map(|_| match sort {
+            0 => session(numbers, few),
+            // A crowd in which each uses something, or all of the few.
+            1 => user(numbers, few),
+            _ => {
+                let mut user = user(numbers, few);
+                user.enabled |= few;
+                user.listed |= few;
+                user
+            }
+        })
         .collect();
     if length > 0 && numbers.chance(18) {
         for _ in 0..numbers.one_of(&[1, 1, 1, 2, 3]) {

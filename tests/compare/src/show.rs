@@ -14,7 +14,7 @@ const FAULTS: [&str; 3] = [
 
 /// Octets in hexadecimal. A long run of one octet is written once, with how
 /// often it stands there: `[00 x 4092]`.
-pub fn hex(octets: &[u8]) -> String {
+fn hex(octets: &[u8]) -> String {
     if octets.is_empty() {
         return "(none)".to_string();
     }
@@ -72,11 +72,10 @@ fn sessions(row: &[Fields]) -> String {
 /// A line for each session of a row that is not as it was.
 fn changed(row: &[Fields], before: &[Fields]) -> String {
     let mut text = String::new();
-    for (at, (session, _)) in (0..)
-        .zip(row.iter().zip(before))
-        .filter(|(_, (session, before))| session != before)
-    {
-        writeln!(text, "           session {at}: {}", fields(session)).unwrap();
+    for (at, session) in row.iter().enumerate() {
+        if *session != before[at] {
+            writeln!(text, "           session {at}: {}", fields(session)).unwrap();
+        }
     }
     text
 }
@@ -113,8 +112,18 @@ impl fmt::Display for RowEvent {
             self.at, self.at
         )?;
         writeln!(out, "  limits   {}", numbers(&self.limits))?;
-        writeln!(out, "  area     {} ({} octets)", hex(&self.area), self.area.len())?;
-        writeln!(out, "  room     {} ({} octets)", hex(&self.room), self.room.len())
+        writeln!(
+            out,
+            "  area     {} ({} octets)",
+            hex(&self.area),
+            self.area.len()
+        )?;
+        writeln!(
+            out,
+            "  room     {} ({} octets)",
+            hex(&self.room),
+            self.room.len()
+        )
     }
 }
 
@@ -152,7 +161,9 @@ impl fmt::Display for Call {
                 writeln!(out, "  given    number {number} ({number:08X})")
             }
             Ask::Permitted { kind } => writeln!(out, "  given    kind {kind} ({kind:08X})"),
-            Ask::Store { session } | Ask::SessionKinds { session } | Ask::SessionRetry { session } => {
+            Ask::Store { session }
+            | Ask::SessionKinds { session }
+            | Ask::SessionRetry { session } => {
                 writeln!(out, "  given    {}", fields(session))
             }
             Ask::SetLimit {

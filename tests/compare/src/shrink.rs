@@ -327,13 +327,15 @@ fn plainer_numbers(call: &Call, take: &mut dyn FnMut(Call) -> bool) -> bool {
 fn plainer_row_numbers(call: &Call, take: &mut dyn FnMut(Call) -> bool) -> bool {
     let mut take = |ask| take(with_ask(call, ask));
     match &call.ask {
-        Ask::Store { session } => fewer_fields(session, &mut |session| take(Ask::Store { session })),
-        Ask::SessionKinds { session } => fewer_fields(session, &mut |session| {
-            take(Ask::SessionKinds { session })
-        }),
-        Ask::SessionRetry { session } => fewer_fields(session, &mut |session| {
-            take(Ask::SessionRetry { session })
-        }),
+        Ask::Store { session } => {
+            fewer_fields(session, &mut |session| take(Ask::Store { session }))
+        }
+        Ask::SessionKinds { session } => {
+            fewer_fields(session, &mut |session| take(Ask::SessionKinds { session }))
+        }
+        Ask::SessionRetry { session } => {
+            fewer_fields(session, &mut |session| take(Ask::SessionRetry { session }))
+        }
         &Ask::SetLimit {
             limits,
             ta_id,
@@ -375,8 +377,9 @@ fn plainer_event(row: &RowEvent, take: &mut dyn FnMut(RowEvent) -> bool) -> bool
         change(&|other| other.at = u64::from(high) << 32 | u64::from(low))
     }) || lower(low, &mut |low| {
         change(&|other| other.at = u64::from(high) << 32 | u64::from(low))
-    }) || lower(ta_id, &mut |ta_id| change(&|other| other.event.ta_id = ta_id))
-        || lower(on, &mut |on| change(&|other| other.event.on = on))
+    }) || lower(ta_id, &mut |ta_id| {
+        change(&|other| other.event.ta_id = ta_id)
+    }) || lower(on, &mut |on| change(&|other| other.event.on = on))
         || lower(number, &mut |number| {
             change(&|other| other.event.number = number)
         })

@@ -1,15 +1,20 @@
 //! What was met, how often, and what should have been.
 
 use crate::call::{Ask, Call, Said, Seen};
-use crate::records;
+use crate::reachable::{reachable, BY_NUMBER, NO_EVENT};
+use crate::{notes, records, rows};
+use second::Fields;
 use std::collections::{BTreeMap, BTreeSet};
 use std::fmt;
 
 /// Where a session was before the call.
 #[derive(Clone, Copy, PartialEq, Eq, PartialOrd, Ord)]
-enum Place {
-    /// The call has no session.
+pub enum Place {
+    /// The call has no session, or no one session.
     None,
+    /// There is no such row, or no such session in it.
+    Outside,
+    /// In a row: any of its sessions.
     Unsound,
     Ready,
     Open,
@@ -17,11 +22,29 @@ enum Place {
     Gone,
 }
 
-use Place::{Gone, Held, Open, Ready, Unsound};
+use Place::{Gone, Held, Open, Outside, Ready, Unsound};
 
-const STATES: [Place; 4] = [Ready, Open, Held, Gone];
+pub const STATES: [Place; 4] = [Ready, Open, Held, Gone];
 
 impl Place {
+    fn before(call: &Call) -> Place {
+        match &call.ask {
+            Ask::Read { .. } | Ask::Create { .. } | Ask::NoLimits | Ask::SetLimit { .. } => {
+                Place::None
+            }
+            Ask::Store { session }
+            | Ask::SessionKinds { session }
+            | Ask::SessionRetry { session } => Place::of_session(session),
+            Ask::RowCount { .. } => match Place::in_row(&call.row, 0) {
+                Place::Outside => Outside,
+                Place::Unsound => Unsound,
+                _ => Place::None,
+            },
+            Ask::RowEvent(event) => Place::in_row(&call.row, event.at),
+            _ => Place::of(&call.record),
+        }
+    }
+
     fn of(record: &[u8]) -> Place {
         match record {
             [_, _, _, _, state, ..] if second::sound(record) => {
@@ -32,9 +55,25 @@ impl Place {
         }
     }
 
+    pub fn of_session(session: &Fields) -> Place {
+        Place::of(&records::stored(session))
+    }
+
+    fn in_row(row: &[Fields], at: u64) -> Place {
+        if row.len() > rows::LONGEST || at >= row.len() as u64 {
+            return Outside;
+        }
+        let mut places = row.iter().map(Place::of_session);
+        if places.any(|place| place == Unsound) {
+            return Unsound;
+        }
+        Place::of_session(&row[at as usize])
+    }
+
     fn name(self) -> &'static str {
         match self {
             Place::None => "-",
+            Outside => "outside",
             Unsound => "unsound",
             Ready => "Ready",
             Open => "Open",
@@ -45,7 +84,7 @@ impl Place {
 }
 
 #[derive(Clone, Copy, PartialEq, Eq, PartialOrd, Ord)]
-enum What {
+pub enum What {
     Refusal(u8),
     /// An outcome and the state after it.
     Outcome(u8, Place),
@@ -63,20 +102,33 @@ impl fmt::Display for What {
     }
 }
 
-type Item = (&'static str, Place, What);
+pub type Item = (&'static str, Place, What);
 
 #[derive(Default)]
 pub struct Tally {
     met: BTreeMap<Item, u64>,
 }
 
+/// The name of a call in the table. Events by number have one each.
+fn name(call: &Call) -> &'static str {
+    match &call.ask {
+        Ask::RowEvent(event) if !event.by_name => BY_NUMBER
+            .get(event.event.which as usize)
+            .unwrap_or(&NO_EVENT),
+        _ => call.name(),
+    }
+}
+
 impl Tally {
     pub fn count(&mut self, call: &Call, seen: &Seen) {
-        let name = call.name();
-        let before = match call.ask {
-            Ask::Read { .. } | Ask::Create { .. } => Place::None,
-            _ => Place::of(&call.record),
-        };
+        let name = name(call);
+        let before = Place::before(call);
+        for note in notes::of_row(call, before, seen) {
+            *self
+                .met
+                .entry(("row", Place::None, What::Note(note)))
+                .or_insert(0) += 1;
+        }
         let mut met = |what| *self.met.entry((name, before, what)).or_insert(0) += 1;
         match seen.said {
             Said::Reading(reading) => {
@@ -91,29 +143,19 @@ impl Tally {
                     met(What::Note("Dynamic read"));
                 }
             }
-            Said::Created(refusal) => met(What::Refusal(refusal)),
+            Said::Refusal(refusal) => met(What::Refusal(refusal)),
             Said::Answer(answer) if answer.refusal != 0 => met(What::Refusal(answer.refusal)),
             Said::Answer(answer) => {
-                met(What::Outcome(answer.outcome, Place::of(&seen.record)));
-                if answer.lost != 0 {
-                    met(What::Note("kinds lost"));
-                }
-                if answer.gained != 0 {
-                    met(What::Note("kinds gained"));
-                }
-                if before == Open && seen.record[4] == records::OPEN {
-                    let in_force = |record: &[u8]| record[5] & records::IN_FORCE != 0;
-                    match (in_force(&call.record), in_force(&seen.record)) {
-                        (false, true) => met(What::Note("negotiation into force")),
-                        (true, false) => met(What::Note("negotiation out of force")),
-                        _ => {}
+                let (was, is) = match &call.ask {
+                    Ask::RowEvent(event) => {
+                        let at = event.at as usize;
+                        (call.row[at], seen.row[at])
                     }
-                }
-                if answer.written != 0 {
-                    met(What::Note("message written"));
-                    if seen.record[18..] == [0; 4] {
-                        met(What::Note("message number wrapped"));
-                    }
+                    _ => (records::fields(&call.record), records::fields(&seen.record)),
+                };
+                met(What::Outcome(answer.outcome, Place::of_session(&is)));
+                for note in notes::of_answer(&answer, &was, &is) {
+                    met(What::Note(note));
                 }
             }
             Said::Permission(answer) if answer.refusal != 0 => met(What::Refusal(answer.refusal)),
@@ -135,6 +177,17 @@ impl Tally {
                 _ => "some other interval",
             })),
             Said::Sound(sound) => met(What::Note(if sound != 0 { "sound" } else { "not sound" })),
+            Said::Loaded(answer) => met(What::Refusal(answer.refusal)),
+            Said::Limits(_) => met(What::Note("limits")),
+            Said::Limited(answer) => met(What::Refusal(answer.refusal)),
+            Said::Count(answer) if answer.refusal != 0 => met(What::Refusal(answer.refusal)),
+            Said::Count(answer) => met(What::Note(match answer.count {
+                0 => "count 0",
+                1..=62 => "count 1 to 62",
+                63 => "count 63",
+                64 => "count 64",
+                _ => "count over 64",
+            })),
             Said::Panicked | Said::Lost(_) => met(What::Note("broke off")),
         }
     }
@@ -144,7 +197,7 @@ impl Tally {
     pub fn report(&self) -> u64 {
         let expected = reachable();
         println!(
-            "{:<16} {:<8} {:<26} {:>9}",
+            "{:<18} {:<8} {:<34} {:>9}",
             "call", "before", "met", "times"
         );
         let mut wrong = 0;
@@ -161,126 +214,8 @@ impl Tally {
             }
             let (name, before, what) = item;
             let (before, what) = (before.name(), what.to_string());
-            println!("{name:<16} {before:<8} {what:<26} {times:>9}{remark}");
+            println!("{name:<18} {before:<8} {what:<34} {times:>9}{remark}");
         }
         wrong
     }
-}
-
-/// Everything that the rules make reachable, and nothing else.
-fn reachable() -> BTreeSet<Item> {
-    let mut items = BTreeSet::new();
-    let mut add = |name, before, what| {
-        items.insert((name, before, what));
-    };
-    use What::{Note, Outcome, Refusal};
-
-    for refusal in [0, 1, 2, 3, 4, 5] {
-        add("read", Place::None, Refusal(refusal));
-    }
-    for note in ["TAC read", "SAC read", "Dynamic read"] {
-        add("read", Place::None, Note(note));
-    }
-    for refusal in [0, 6, 10] {
-        add("create", Place::None, Refusal(refusal));
-    }
-    for name in [
-        "initialization",
-        "capability",
-        "local_change",
-        "mismatch",
-        "hello",
-        "closed",
-        "permitted",
-        "permitted_kinds",
-        "retry_interval",
-    ] {
-        add(name, Unsound, Refusal(10));
-    }
-    add("sound", Unsound, Note("not sound"));
-
-    for (name, home) in [("initialization", Ready), ("capability", Open)] {
-        for state in STATES.into_iter().filter(|&state| state != home) {
-            add(name, state, Refusal(7));
-        }
-        for refusal in [1, 2, 3, 4, 5] {
-            add(name, home, Refusal(refusal));
-        }
-        add(name, home, Outcome(0, Open));
-        for after in [Ready, Held, Gone] {
-            add(name, home, Outcome(2, after));
-        }
-        add(name, home, Note("kinds gained"));
-    }
-    for note in [
-        "kinds lost",
-        "negotiation into force",
-        "negotiation out of force",
-    ] {
-        add("capability", Open, Note(note));
-    }
-
-    for state in STATES {
-        add("local_change", state, Refusal(6));
-        add("local_change", state, Outcome(1, state));
-        let after = if state == Held { Ready } else { state };
-        add("local_change", state, Outcome(0, after));
-    }
-    for refusal in [8, 9] {
-        add("local_change", Open, Refusal(refusal));
-    }
-    for after in [Ready, Held, Gone] {
-        add("local_change", Open, Outcome(2, after));
-    }
-    for note in [
-        "kinds lost",
-        "kinds gained",
-        "message written",
-        "message number wrapped",
-    ] {
-        add("local_change", Open, Note(note));
-    }
-
-    for before in [Ready, Open] {
-        for after in [Ready, Held, Gone] {
-            add("mismatch", before, Outcome(2, after));
-        }
-    }
-    for before in [Held, Gone] {
-        add("mismatch", before, Refusal(7));
-    }
-    add("mismatch", Open, Note("kinds lost"));
-
-    for state in [Ready, Open, Held] {
-        add("hello", state, Outcome(0, state));
-        add("hello", state, Outcome(1, state));
-    }
-    add("hello", Held, Outcome(0, Ready));
-    add("hello", Gone, Outcome(0, Ready));
-
-    add("closed", Open, Outcome(0, Ready));
-    add("closed", Open, Note("kinds lost"));
-    for state in [Ready, Held, Gone] {
-        add("closed", state, Refusal(7));
-    }
-
-    for state in STATES {
-        add("permitted", state, Refusal(6));
-        add("permitted", state, Note("not permitted"));
-        add("permitted_kinds", state, Note("no kinds"));
-        add(
-            "retry_interval",
-            state,
-            Note(if state == Held {
-                "interval 65535"
-            } else {
-                "interval 0"
-            }),
-        );
-        add("sound", state, Note("sound"));
-    }
-    add("permitted", Open, Note("permitted"));
-    add("permitted_kinds", Open, Note("some kinds"));
-    add("permitted_kinds", Open, Note("all kinds"));
-    items
 }

@@ -45,7 +45,7 @@ loop-less : tie.Need-loop-less Inv-loop μ-loop
 loop-less c = omega arith
 
 loop-again : tie.Need-loop-again Inv-loop μ-loop
-loop-again c = 
+loop-again c =
     let l = c .before .before .before .loop in
     let place : l .k + 1 - 1 ≡ l .k = omega arith in
     (omega arith, rw (chosen-more, place, sym (c .before .capped .ensures), sym (l .inv .1)) (c .switched .ensures))
