@@ -68,15 +68,14 @@ impl Tally {
     }
 
     // How many of so many sessions use an application.
-    pub fn count(self, sessions: usize, app: TaId) -> Count
-        ensures { λ r. ⌜ r ≡ countIn sessions self (app .0) ⌝ }
+    pub fn count(self, sessions: usize, ta_id: u32) -> Count
+        ensures { λ r. ⌜ r ≡ countIn sessions self «ta_id» ⌝ }
     {
-        let n = app.0;
         let counts = self.counts;
         if (0 < sessions) & (sessions <= 64) {
             if self.sound {
-                if app.is_known() {
-                    let k = (n - 1) as usize;
+                if TaId(ta_id).is_known() {
+                    let k = (ta_id - 1) as usize;
                     return Count {
                         refusal: 0,
                         count: counts[k],

@@ -196,7 +196,7 @@ pub extern "C" fn tacit_row_count(row: &[Session], ta_id: u32) -> Count
     ensures { λ r. ⌜ r ≡ countOf (now (row .entry)) «ta_id» ⌝ }
 {
     let tally = row::tally_of(row);
-    tally.count(row.len(), TaId(ta_id))
+    tally.count(row.len(), ta_id)
 }
 
 // The row is lent: one pass over it, then the session is taken out, the event happens to it by value, and it is stored back.

@@ -290,15 +290,15 @@ module _ {M : Type 1} (𝓤 : URA M) (H : Heap 𝓤) (A : Atoms 𝓤) (W : Given
 
       -- after the test: [obs; the borrow; three tokens; true; row's fact; area; room; the locals from the last to the first]
       abbrev Tested : Tally → List (Item 𝓤)
-      Tested t = ‵ (Obs ys) ∷ ‵ (Bor ys) ∷ ‵ (flft κ q) ∷ ‵ (flft κ₁ q₁) ∷ ‵ (flft κ₂ q₂) ∷ ‵ ftrue ∷ ‵ RowFact ∷ ‵ Area ∷ ‵ Lent-room ∷ ‵ (froom tyPtr l₁₉ 0) ∷ 
-          ‵ (fdies tyPtr l₁₉) ∷ ‵ (froom lent-room l₁₈ 0) ∷ ‵ (fdies lent-room l₁₈) ∷ ‵ (froom room-ptr l₁₇ 0) ∷ ‵ (fdies room-ptr l₁₇) ∷ 
-          ‵ (froom (tyInt w64) l₁₆ 0) ∷ ‵ (fdies (tyInt w64) l₁₆) ∷ ‵ (froom T′.mir l₁₅ 0) ∷ ‵ (fdies T′.mir l₁₅) ∷ ‵ (froom tyPtr l₁₄ 0) ∷ ‵ (fdies tyPtr l₁₄) ∷ 
-          ‵ (froom (tyInt w64) l₁₃ 0) ∷ ‵ (fdies (tyInt w64) l₁₃) ∷ ‵ (fat fullShare tyBool l₁₂ 0 (vbool (ltb i (length ys)))) ∷ ‵ (fdies tyBool l₁₂) ∷ 
-          ‵ (fat fullShare (tyInt w64) l₁₁ 0 (vint w64 (length ys))) ∷ ‵ (fdies (tyInt w64) l₁₁) ∷ ‵ (fat fullShare row-slice l₁₀ 0 (row-val)) ∷ 
-          ‵ (fdies row-slice l₁₀) ∷ ‵ (fat fullShare row-ptr l₉ 0 (vptr b o)) ∷ ‵ (fdies row-ptr l₉) ∷ ‵ (froom Z′.mir l₈ 0) ∷ ‵ (fdies Z′.mir l₈) ∷ 
-          ‵ (fat fullShare U′.mir l₇ 0 (low-tally t)) ∷ ‵ (fdies U′.mir l₇) ∷ ‵ (fat fullShare room-slice l₆ 0 (room-val)) ∷ ‵ (fdies room-slice l₆) ∷ 
-          ‵ (fat fullShare area-slice l₅ 0 (area-val)) ∷ ‵ (fdies area-slice l₅) ∷ ‵ (fat fullShare L′.mir l₄ 0 (low-limits li)) ∷ ‵ (fdies L′.mir l₄) ∷ 
-          ‵ (fat fullShare E′.mir l₃ 0 (low-event ev)) ∷ ‵ (fdies E′.mir l₃) ∷ ‵ (fat fullShare (tyInt w64) l₂ 0 (vint w64 i)) ∷ ‵ (fdies (tyInt w64) l₂) ∷ 
+      Tested t = ‵ (Obs ys) ∷ ‵ (Bor ys) ∷ ‵ (flft κ q) ∷ ‵ (flft κ₁ q₁) ∷ ‵ (flft κ₂ q₂) ∷ ‵ ftrue ∷ ‵ RowFact ∷ ‵ Area ∷ ‵ Lent-room ∷ ‵ (froom tyPtr l₁₉ 0) ∷
+          ‵ (fdies tyPtr l₁₉) ∷ ‵ (froom lent-room l₁₈ 0) ∷ ‵ (fdies lent-room l₁₈) ∷ ‵ (froom room-ptr l₁₇ 0) ∷ ‵ (fdies room-ptr l₁₇) ∷
+          ‵ (froom (tyInt w64) l₁₆ 0) ∷ ‵ (fdies (tyInt w64) l₁₆) ∷ ‵ (froom T′.mir l₁₅ 0) ∷ ‵ (fdies T′.mir l₁₅) ∷ ‵ (froom tyPtr l₁₄ 0) ∷ ‵ (fdies tyPtr l₁₄) ∷
+          ‵ (froom (tyInt w64) l₁₃ 0) ∷ ‵ (fdies (tyInt w64) l₁₃) ∷ ‵ (fat fullShare tyBool l₁₂ 0 (vbool (ltb i (length ys)))) ∷ ‵ (fdies tyBool l₁₂) ∷
+          ‵ (fat fullShare (tyInt w64) l₁₁ 0 (vint w64 (length ys))) ∷ ‵ (fdies (tyInt w64) l₁₁) ∷ ‵ (fat fullShare row-slice l₁₀ 0 (row-val)) ∷
+          ‵ (fdies row-slice l₁₀) ∷ ‵ (fat fullShare row-ptr l₉ 0 (vptr b o)) ∷ ‵ (fdies row-ptr l₉) ∷ ‵ (froom Z′.mir l₈ 0) ∷ ‵ (fdies Z′.mir l₈) ∷
+          ‵ (fat fullShare U′.mir l₇ 0 (low-tally t)) ∷ ‵ (fdies U′.mir l₇) ∷ ‵ (fat fullShare room-slice l₆ 0 (room-val)) ∷ ‵ (fdies room-slice l₆) ∷
+          ‵ (fat fullShare area-slice l₅ 0 (area-val)) ∷ ‵ (fdies area-slice l₅) ∷ ‵ (fat fullShare L′.mir l₄ 0 (low-limits li)) ∷ ‵ (fdies L′.mir l₄) ∷
+          ‵ (fat fullShare E′.mir l₃ 0 (low-event ev)) ∷ ‵ (fdies E′.mir l₃) ∷ ‵ (fat fullShare (tyInt w64) l₂ 0 (vint w64 i)) ∷ ‵ (fdies (tyInt w64) l₂) ∷
           ‵ (fat fullShare slice l₁ 0 (row-val)) ∷ ‵ (fdies slice l₁) ∷ ‵ (froom N′.mir l₀ 0) ∷ ‵ (fdies N′.mir l₀) ∷ []
 
       inside : (t : Tally) → Is U.the-row t (low-tally t ∷ []) → t ≡ tallied S.nothing ys → T (ltb i (length ys)) → Sq W (Tested t) (runs C Λ En (then-of mir.s-6) Then)
@@ -366,14 +366,14 @@ module _ {M : Type 1} (𝓤 : URA M) (H : Heap 𝓤) (A : Atoms 𝓤) (W : Given
 
       -- before the pass
       abbrev Started : List (Item 𝓤)
-      Started = ‵ (Obs ys) ∷ ‵ (Bor ys) ∷ ‵ (flft κ q) ∷ ‵ (flft κ₁ q₁) ∷ ‵ (flft κ₂ q₂) ∷ ‵ ftrue ∷ ‵ RowFact ∷ ‵ Area ∷ ‵ Lent-room ∷ ‵ (froom tyPtr l₁₉ 0) ∷ 
-          ‵ (fdies tyPtr l₁₉) ∷ ‵ (froom lent-room l₁₈ 0) ∷ ‵ (fdies lent-room l₁₈) ∷ ‵ (froom room-ptr l₁₇ 0) ∷ ‵ (fdies room-ptr l₁₇) ∷ 
-          ‵ (froom (tyInt w64) l₁₆ 0) ∷ ‵ (fdies (tyInt w64) l₁₆) ∷ ‵ (froom T′.mir l₁₅ 0) ∷ ‵ (fdies T′.mir l₁₅) ∷ ‵ (froom tyPtr l₁₄ 0) ∷ ‵ (fdies tyPtr l₁₄) ∷ 
-          ‵ (froom (tyInt w64) l₁₃ 0) ∷ ‵ (fdies (tyInt w64) l₁₃) ∷ ‵ (froom tyBool l₁₂ 0) ∷ ‵ (fdies tyBool l₁₂) ∷ ‵ (froom (tyInt w64) l₁₁ 0) ∷ 
-          ‵ (fdies (tyInt w64) l₁₁) ∷ ‵ (froom row-slice l₁₀ 0) ∷ ‵ (fdies row-slice l₁₀) ∷ ‵ (froom row-ptr l₉ 0) ∷ ‵ (fdies row-ptr l₉) ∷ 
-          ‵ (froom Z′.mir l₈ 0) ∷ ‵ (fdies Z′.mir l₈) ∷ ‵ (froom U′.mir l₇ 0) ∷ ‵ (fdies U′.mir l₇) ∷ ‵ (fat fullShare room-slice l₆ 0 (room-val)) ∷ 
-          ‵ (fdies room-slice l₆) ∷ ‵ (fat fullShare area-slice l₅ 0 (area-val)) ∷ ‵ (fdies area-slice l₅) ∷ ‵ (fat fullShare L′.mir l₄ 0 (low-limits li)) ∷ 
-          ‵ (fdies L′.mir l₄) ∷ ‵ (fat fullShare E′.mir l₃ 0 (low-event ev)) ∷ ‵ (fdies E′.mir l₃) ∷ ‵ (fat fullShare (tyInt w64) l₂ 0 (vint w64 i)) ∷ 
+      Started = ‵ (Obs ys) ∷ ‵ (Bor ys) ∷ ‵ (flft κ q) ∷ ‵ (flft κ₁ q₁) ∷ ‵ (flft κ₂ q₂) ∷ ‵ ftrue ∷ ‵ RowFact ∷ ‵ Area ∷ ‵ Lent-room ∷ ‵ (froom tyPtr l₁₉ 0) ∷
+          ‵ (fdies tyPtr l₁₉) ∷ ‵ (froom lent-room l₁₈ 0) ∷ ‵ (fdies lent-room l₁₈) ∷ ‵ (froom room-ptr l₁₇ 0) ∷ ‵ (fdies room-ptr l₁₇) ∷
+          ‵ (froom (tyInt w64) l₁₆ 0) ∷ ‵ (fdies (tyInt w64) l₁₆) ∷ ‵ (froom T′.mir l₁₅ 0) ∷ ‵ (fdies T′.mir l₁₅) ∷ ‵ (froom tyPtr l₁₄ 0) ∷ ‵ (fdies tyPtr l₁₄) ∷
+          ‵ (froom (tyInt w64) l₁₃ 0) ∷ ‵ (fdies (tyInt w64) l₁₃) ∷ ‵ (froom tyBool l₁₂ 0) ∷ ‵ (fdies tyBool l₁₂) ∷ ‵ (froom (tyInt w64) l₁₁ 0) ∷
+          ‵ (fdies (tyInt w64) l₁₁) ∷ ‵ (froom row-slice l₁₀ 0) ∷ ‵ (fdies row-slice l₁₀) ∷ ‵ (froom row-ptr l₉ 0) ∷ ‵ (fdies row-ptr l₉) ∷
+          ‵ (froom Z′.mir l₈ 0) ∷ ‵ (fdies Z′.mir l₈) ∷ ‵ (froom U′.mir l₇ 0) ∷ ‵ (fdies U′.mir l₇) ∷ ‵ (fat fullShare room-slice l₆ 0 (room-val)) ∷
+          ‵ (fdies room-slice l₆) ∷ ‵ (fat fullShare area-slice l₅ 0 (area-val)) ∷ ‵ (fdies area-slice l₅) ∷ ‵ (fat fullShare L′.mir l₄ 0 (low-limits li)) ∷
+          ‵ (fdies L′.mir l₄) ∷ ‵ (fat fullShare E′.mir l₃ 0 (low-event ev)) ∷ ‵ (fdies E′.mir l₃) ∷ ‵ (fat fullShare (tyInt w64) l₂ 0 (vint w64 i)) ∷
           ‵ (fdies (tyInt w64) l₂) ∷ ‵ (fat fullShare slice l₁ 0 (row-val)) ∷ ‵ (fdies slice l₁) ∷ ‵ (froom N′.mir l₀ 0) ∷ ‵ (fdies N′.mir l₀) ∷ []
 
       starts : Sq W Started (runs C Λ En mir.t-1 (atRet En Post))
@@ -424,8 +424,19 @@ module _ {M : Type 1} (𝓤 : URA M) (H : Heap 𝓤) (A : Atoms 𝓤) (W : Given
 row-event-meets : {M : Type 1} (𝓤 : URA M) (H : Heap 𝓤) (A : Atoms 𝓤) (W : Given 𝓤 H A) (mem : Memory → SProp 𝓤) (run : Routine → Fun 𝓤) (𝓣 : Tables 𝓤 H) → Triple 𝓤 (𝓣 .C #pass) (Passing 𝓤 H A mem run) → Triple 𝓤 (𝓣 .C #event) (Happening 𝓤 H A mem run) → Triple 𝓤 (𝓣 .C #outside) (Outside 𝓤 H A mem run)
     → Meets 𝓤 H A f.signature (WpFn 𝓤 H (𝓣 .C) (𝓣 .Λ) code.function) (f.spec 𝓤 H A mem run)
 row-event-meets 𝓤 H A W mem run 𝓣 known-pass known-event known-outside =
-    walk-meets 𝓤 H A f.ended stayed W (goes-slice 𝓤 H A W 3 0 tt (plain (λ _. T.the-row)), (goes-none 𝓤 H A W 3 (λ _. usize) yes (λ κs x f. refl), (goes-none 𝓤 H A W 3 (λ _. E.the-row) yes (λ κs x f. refl), (goes-none 𝓤 H A W 3 (λ _. L.the-row) yes (λ κs x f. refl),
-    (goes-none-slice 𝓤 H A W 3 (1 ∷ []) tt (plain (λ _. u8)) yes, (goes-gave-slice 𝓤 H A W 3 2 tt (plain (λ _. u8)), tt)))))) (f.clauses 𝓤 H A mem run)
+    walk-meets 𝓤 H A f.ended stayed W (
+      goes-slice 𝓤 H A W 3 0 tt (plain (λ _. T.the-row)),
+      (
+        goes-none 𝓤 H A W 3 (λ _. usize) yes (λ κs x f. refl),
+        (
+          goes-none 𝓤 H A W 3 (λ _. E.the-row) yes (λ κs x f. refl),
+          (
+            goes-none 𝓤 H A W 3 (λ _. L.the-row) yes (λ κs x f. refl),
+            (goes-none-slice 𝓤 H A W 3 (1 ∷ []) tt (plain (λ _. u8)) yes, (goes-gave-slice 𝓤 H A W 3 2 tt (plain (λ _. u8)), tt)),
+          ),
+        ),
+      ),
+    ) (f.clauses 𝓤 H A mem run)
     (WpFn 𝓤 H (𝓣 .C) (𝓣 .Λ) code.function) (WpFn-mono 𝓤 H (W .laws) 𝓣 code.function) (row-event-walks 𝓤 H A W mem run (𝓣 .C) (𝓣 .Λ) (fmOf 𝓤 H (W .laws) 𝓣) known-pass known-event known-outside)
 
 pub tacit-row-event-spec : {M : Type 1} → stated.statement M
