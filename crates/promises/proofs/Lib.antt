@@ -4,3 +4,4 @@ pub mod Alike
 pub mod Condition3
 pub mod Written
 pub mod Records
+pub mod Rows

@@ -92,7 +92,7 @@ module _ (t : Session) (o : OtherEnd t) (n : ℕ) (on : Bool) (known : knownAppl
   unfolding E.capability
   event-told =
       taken _ _ (o .is-sound) ∙ taken _ _ (o .is-open)
-      ∙ ap (λ (r : Reading). E.heard t r (capable t (tacOctets n on) r)) (read-back 0 n on)
+      ∙ ap (λ (r : Reading). E.heard t r (settled t (capable t (tacOctets n on) r))) (read-back 0 n on)
       ∙ taken _ _ refl
       ∙ ap (settled t) capable-told
 

@@ -212,9 +212,23 @@ fn one_rule_broken(numbers: &mut Numbers) -> Vec<u8> {
     octets
 }
 
+/// A session with a bit set that stands for nothing.
+fn one_spare_bit(numbers: &mut Numbers) -> Fields {
+    let mut session = sound_session(numbers);
+    match numbers.below(6) {
+        0 => session.state |= 4 << numbers.below(6),
+        1 => session.flags |= 0x80,
+        2 => session.disabled |= 0x10 << numbers.below(4),
+        3 => session.enabled |= 0x2000 << numbers.below(3),
+        4 => session.listed |= 0x2000 << numbers.below(3),
+        _ => session.protects |= 0x400 << numbers.below(6),
+    }
+    session
+}
+
 /// The fields of a record with something wrong in them, most of the time.
 pub fn damaged_session(numbers: &mut Numbers) -> Fields {
-    let record = match numbers.weighted(&[50, 15, 20, 10, 5]) {
+    let record = match numbers.weighted(&[40, 12, 18, 10, 5, 15]) {
         0 => one_rule_broken(numbers),
         1 => unruly(numbers),
         2 => {
@@ -223,7 +237,8 @@ pub fn damaged_session(numbers: &mut Numbers) -> Fields {
             octets
         }
         3 => by_role(numbers),
-        _ => numbers.octets(LENGTH),
+        4 => numbers.octets(LENGTH),
+        _ => stored(&one_spare_bit(numbers)),
     };
     fields(&record)
 }

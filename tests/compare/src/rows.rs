@@ -91,7 +91,7 @@ fn such(numbers: &mut Numbers, few: u16, fits: impl Fn(&Fields) -> bool) -> Fiel
 
 /// A length for a row, often one at the edge.
 fn any_length(numbers: &mut Numbers) -> usize {
-    match numbers.weighted(&[5, 10, 10, 33, 11, 7, 14, 6, 4]) {
+    match numbers.weighted(&[6, 10, 10, 36, 12, 6, 10, 6, 4]) {
         0 => 0,
         1 => 1,
         2 => 2,
@@ -118,8 +118,12 @@ pub fn length(numbers: &mut Numbers) -> usize {
 
 /// A row of any sort, sound most of the time.
 pub fn any(numbers: &mut Numbers, few: u16) -> Vec<Fields> {
-    let length = any_length(numbers);
     let sort = numbers.weighted(&[68, 12, 20]);
+    let length = if sort == 2 && numbers.flag() {
+        LONGEST
+    } else {
+        any_length(numbers)
+    };
     let mut row: Vec<Fields> = (0..length)
         .map(|_| match sort {
             0 => session(numbers, few),

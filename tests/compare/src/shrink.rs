@@ -3,7 +3,7 @@
 
 use crate::call::{Ask, Call, RowEvent};
 use crate::library::Library;
-use crate::records;
+use crate::{records, rows};
 use second::{Event, Fields, Limits};
 use std::time::{Duration, Instant};
 
@@ -207,17 +207,25 @@ fn fewer_tlvs(call: &Call, take: &mut dyn FnMut(Call) -> bool) -> bool {
     false
 }
 
-/// Sessions out of the row, so that the one with the number stays the same.
+/// Sessions out of the row, so that the one with the number stays the same; if
+/// need be with limits that are lower by as many as used each application.
 fn fewer_sessions(call: &Call, take: &mut dyn FnMut(Call) -> bool) -> bool {
     runs(call.row.len(), &mut |from, to| {
         let mut other = call.clone();
-        other.row.drain(from..to);
+        let left_out: Vec<Fields> = other.row.drain(from..to).collect();
         if let Ask::RowEvent(row) = &mut other.ask {
             if row.at >= to as u64 {
-                row.at -= (to - from) as u64;
+                row.at -= left_out.len() as u64;
             }
         }
-        take(other)
+        take(other.clone()) || {
+            if let Ask::RowEvent(row) = &mut other.ask {
+                for (limit, users) in row.limits.of.iter_mut().zip(rows::counts(&left_out)) {
+                    *limit = limit.saturating_sub(users);
+                }
+            }
+            take(other)
+        }
     })
 }
 

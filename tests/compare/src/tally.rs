@@ -119,6 +119,17 @@ fn name(call: &Call) -> &'static str {
     }
 }
 
+/// The session of an event before and after; none if it should have been refused.
+fn sessions(call: &Call, seen: &Seen) -> (Fields, Fields) {
+    match &call.ask {
+        Ask::RowEvent(event) => {
+            let session = |row: &[Fields]| row.get(event.at as usize).copied().unwrap_or_default();
+            (session(&call.row), session(&seen.row))
+        }
+        _ => (records::fields(&call.record), records::fields(&seen.record)),
+    }
+}
+
 impl Tally {
     pub fn count(&mut self, call: &Call, seen: &Seen) {
         let name = name(call);
@@ -146,13 +157,7 @@ impl Tally {
             Said::Refusal(refusal) => met(What::Refusal(refusal)),
             Said::Answer(answer) if answer.refusal != 0 => met(What::Refusal(answer.refusal)),
             Said::Answer(answer) => {
-                let (was, is) = match &call.ask {
-                    Ask::RowEvent(event) => {
-                        let at = event.at as usize;
-                        (call.row[at], seen.row[at])
-                    }
-                    _ => (records::fields(&call.record), records::fields(&seen.record)),
-                };
+                let (was, is) = sessions(call, seen);
                 met(What::Outcome(answer.outcome, Place::of_session(&is)));
                 for note in notes::of_answer(&answer, &was, &is) {
                     met(What::Note(note));
