@@ -5,3 +5,4 @@ pub mod Condition3
 pub mod Written
 pub mod Records
 pub mod Rows
+pub mod Limits

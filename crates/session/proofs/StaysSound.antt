@@ -117,7 +117,7 @@ wakes =
 gone-shut : (n : ℕ) → n ≤ 3 → eqb n 3 ≡ true → eqb n 1 ≡ false
 gone-shut = states (λ (n : ℕ). eqb n 3 ≡ true → eqb n 1 ≡ false) (λ _. refl) (λ e. absurd (false≢true e)) (λ _. refl) (λ _. refl)
 
-ready-shut : (n : ℕ) → n ≤ 3 → eqb n 0 ≡ true → eqb n 1 ≡ false
+pub ready-shut : (n : ℕ) → n ≤ 3 → eqb n 0 ≡ true → eqb n 1 ≡ false
 ready-shut = states (λ (n : ℕ). eqb n 0 ≡ true → eqb n 1 ≡ false) (λ _. refl) (λ e. absurd (false≢true e)) (λ _. refl) (λ _. refl)
 
 -- ---- greeted: Hello recorded is on, and the other flags stay
@@ -216,7 +216,7 @@ numbered-sound s r =
 
 -- ---- flags with more of them where a test holds
 module _ (flags m k : ℕ) (on : Bool) where
-  raised-kept : has m k ≡ false → has (raised flags on m) k ≡ has flags k
+  pub raised-kept : has m k ≡ false → has (raised flags on m) k ≡ has flags k
   unfolding raised
   raised-kept h = by-test (λ (f : ℕ). has f k ≡ has flags k) (λ _. flag.kept-on flags m k h) (λ _. refl)
 

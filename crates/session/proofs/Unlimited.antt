@@ -2,7 +2,7 @@
 -- something is common, some of it is under its limit. Assumes nothing.
 use Prim.Native.Nat.{ℕ, _<_, _^_}
 use mathlib.Core.Path.{_≡_, refl, sym, ap, _∙_}
-use mathlib.Core.Bool.{Bool, true, false, _&&_}
+use mathlib.Core.Bool.{Bool, true, false, _&&_, and-true}
 use mathlib.Core.List.{List}
 use lib.Dec.{eqb, lit<}
 use Rattle.choice.specs.Pick.{pick}
@@ -18,10 +18,6 @@ use Rattle.session.specs.Session.{isReady, inForce, negotiated, apart, s
 use Rattle.session.specs.Events.{answered, settled, opening, initialization}
 use Rattle.session.specs.Limits.{allApplications, atLimit, admitted, limitedInitialization}
 use Rattle.session.proofs.SoundMeans.{sound-means}
-
-and-true : (x : Bool) → x && true ≡ x
-and-true true = refl
-and-true false = refl
 
 -- a set of applications has nothing but applications
 pub common-all : (s : ℕ) → s < 2 ^ 13 → common s allApplications ≡ s

@@ -3,5 +3,6 @@ pub mod Bounds
 pub mod Subsets
 pub mod Switches
 pub mod Chosen
+pub mod Found
 pub mod Flags
 pub mod Determined

@@ -61,11 +61,11 @@ impl RowWalk {
     fn event(&self, numbers: &mut Numbers) -> RowEvent {
         let at = self.at(numbers);
         let session = self.row.get(at as usize).copied().unwrap_or_default();
-        // By number; the last is none of the six.
+        // By number; the last is none of the six. Held and Gone wait for a
+        // change or a Hello.
         let weights = match session.state {
             records::READY => [60, 2, 10, 3, 8, 2, 1],
             records::OPEN => [2, 30, 22, 3, 8, 12, 1],
-            records::HELD => [3, 3, 25, 3, 45, 2, 1],
             _ => [3, 3, 25, 3, 45, 2, 1],
         };
         let which = numbers.weighted(&weights);

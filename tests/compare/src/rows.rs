@@ -163,7 +163,7 @@ pub fn counts(row: &[Fields]) -> [u8; APPLICATIONS] {
 pub fn limits(numbers: &mut Numbers, row: &[Fields], few: u16) -> Limits {
     let counts = counts(row);
     let sort = numbers.weighted(&[22, 22, 14, 22, 12, 8]);
-    let one = some_of(numbers, few);
+    let some = some_of(numbers, few);
     Limits {
         of: std::array::from_fn(|place| {
             let count = counts[place];
@@ -171,7 +171,7 @@ pub fn limits(numbers: &mut Numbers, row: &[Fields], few: u16) -> Limits {
                 // None has a place left.
                 0 => numbers.between(0, count.into()) as u8,
                 // Only some have one.
-                1 => count + u8::from(one >> place & 1 == 1),
+                1 => count + u8::from(some >> place & 1 == 1),
                 // All have just one.
                 2 => count + 1,
                 3 => about(numbers, count),

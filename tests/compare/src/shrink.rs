@@ -243,11 +243,11 @@ fn plainer_session(call: &Call, take: &mut dyn FnMut(Call) -> bool) -> bool {
     })
 }
 
+/// Sessions as the one before, or plainer.
 fn plainer_row(call: &Call, take: &mut dyn FnMut(Call) -> bool) -> bool {
     (0..call.row.len()).any(|at| {
-        fewer_fields(&call.row[at], &mut |session| {
-            take(with_session(call, at, session))
-        })
+        let mut take = |session| take(with_session(call, at, session));
+        at > 0 && take(call.row[at - 1]) || fewer_fields(&call.row[at], &mut take)
     })
 }
 
