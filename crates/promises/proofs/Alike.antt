@@ -23,7 +23,9 @@ use Rattle.session.specs.Session as S
 use Rattle.session.specs.Session.{isReady, isOpen, isGone, usesTac, inForce, dynamic, recorded, negotiated, Sound, mismatched, apart, woken, besides, changed}
 use Rattle.session.specs.Events as E
 use Rattle.session.specs.Events.{unchanged, answered, settled, opening, capable, same, sent, writing}
+use Rattle.session.specs.Limits.{atLimit, admitted, limitedInitialization}
 use Rattle.session.proofs.SoundMeans.{means-sound}
+use Rattle.session.proofs.TurnedAway.{mismatched-shut}
 use Rattle.promises.specs.Run.{Event, Initialization, Capability, LocalChange, Mismatch, Hello, Closed, step}
 
 pub record Alike (s t : Session) : Type 0 where
@@ -33,31 +35,33 @@ pub record Alike (s t : Session) : Type 0 where
 never : {A : Type 0} {x : Bool} → x ≡ true → x ≡ false → A
 never e f = absurd (true≢false (sym e ∙ f))
 
-alike : (s : Session) (e n : ℕ) → Within (s .enabled) e → Alike s (besides s e n)
+pub alike : (s : Session) (e n : ℕ) → Within (s .enabled) e → Alike s (besides s e n)
 alike s e n h = record { same-else = refl; more = h }
 
 -- if the first is Open after the event, the two are alike after it
-abbrev Follows : After → After → Type 0
+abbrev pub Follows : After → After → Type 0
 Follows z z′ = isOpen (z .session) ≡ true → Alike (z .session) (z′ .session)
 
 -- ---- a mismatch
-mismatched-shut : (s : Session) → isOpen (mismatched s) ≡ false
-unfolding mismatched
-mismatched-shut s = by-test Shut (λ _. by-test Shut (λ _. refl) (λ _. refl)) (λ _. refl)
+-- with more in the set, what was found in it is found
+more-found : (f : Bool) (a b : ℕ) → Within a b → (f && empty a) ≡ false → (f && empty b) ≡ false
+more-found false a b h k = refl
+more-found true a b h k = go (empty b) refl
   where
-    Shut : Session → Type 0
-    Shut t = isOpen t ≡ false
+    go : (x : Bool) → empty b ≡ x → x ≡ false
+    go false q = refl
+    go true q = never (lacks-empty a (λ i p. true≢false (sym (h i p) ∙ empty-lacks b i q))) k
 
--- with more enabled, what was common is common
+-- with more enabled, what was common is common, and what was under its limit is
 apart-more : (s : Session) (e n : ℕ) → Within (s .enabled) e → apart s ≡ false → apart (besides s e n) ≡ false
 unfolding apart
-apart-more s e n h = go (inForce s) (empty (common e (s .listed))) refl
-  where
-    go : (f x : Bool) → empty (common e (s .listed)) ≡ x → (f && empty (negotiated s)) ≡ false → (f && x) ≡ false
-    go false x q k = refl
-    go true false q k = refl
-    go true true q k =
-        never (lacks-empty (negotiated s) (λ i p. true≢false (sym (within-common (s .enabled) e (s .listed) h i p) ∙ empty-lacks (common e (s .listed)) i q))) k
+apart-more s e n h = more-found (inForce s) (negotiated s) (common e (s .listed)) (within-common (s .enabled) e (s .listed) h)
+
+limit-more : (s : Session) (e n under : ℕ) → Within (s .enabled) e → atLimit s under ≡ false → atLimit (besides s e n) under ≡ false
+unfolding atLimit
+limit-more s e n under h =
+    more-found (inForce s) (common (negotiated s) under) (common (common e (s .listed)) under)
+    (within-common (negotiated s) (common e (s .listed)) under (within-common (s .enabled) e (s .listed) h))
 
 -- a sound session is not apart
 together : (s : Session) → Sound s → apart s ≡ false
@@ -68,16 +72,22 @@ together s r = go (inForce s) refl
     go false e = refl
     go true e = r .force-common e
 
+-- out of Open where a test holds of the first, and then perhaps of the second; else on
+unless-shut : (x x′ : Bool) → (x ≡ false → x′ ≡ false) → (m m′ z z′ : After) → isOpen (m .session) ≡ false → Follows z z′
+    → Follows (pick x m z) (pick x′ m′ z′)
+unless-shut x x′ f m m′ z z′ shut al = go x refl
+  where
+    go : (y : Bool) → x ≡ y → Follows (pick x m z) (pick x′ m′ z′)
+    go true q k = never (sym (ap (λ (w : After). isOpen (w .session)) (taken m z q)) ∙ k) shut
+    go false q k =
+        subst (λ (w : After). Alike (w .session) (pick x′ m′ z′ .session)) (sym (left m z q))
+        (subst (λ (w : After). Alike (z .session) (w .session)) (sym (left m′ z′ (f q)))
+        (al (sym (ap (λ (w : After). isOpen (w .session)) (left m z q)) ∙ k)))
+
 -- to b, or to a mismatch: z is what comes of b, and m of the mismatch
 settle-follows : (b : Session) (e n : ℕ) → Within (b .enabled) e → (m m′ z z′ : After) → isOpen (m .session) ≡ false
     → Alike (z .session) (z′ .session) → Follows (pick (apart b) m z) (pick (apart (besides b e n)) m′ z′)
-settle-follows b e n h m m′ z z′ shut al = go (apart b) refl
-  where
-    go : (x : Bool) → apart b ≡ x → Follows (pick (apart b) m z) (pick (apart (besides b e n)) m′ z′)
-    go true q k = never (sym (ap (λ (w : After). isOpen (w .session)) (taken m z q)) ∙ k) shut
-    go false q k =
-        subst (λ (w : After). Alike (w .session) (pick (apart (besides b e n)) m′ z′ .session)) (sym (left m z q))
-        (subst (λ (w : After). Alike (z .session) (w .session)) (sym (left m′ z′ (apart-more b e n h q))) al)
+settle-follows b e n h m m′ z z′ shut al = unless-shut (apart b) (apart (besides b e n)) (apart-more b e n h) m m′ z z′ shut (λ _. al)
 
 -- ---- a local change
 -- an Open session is not woken
@@ -169,7 +179,7 @@ module _ (s : Session) (e m : ℕ) (h : Within (s .enabled) e) (n room : ℕ) wh
 -- ---- every event
 module _ (s : Session) (e m : ℕ) (h : Within (s .enabled) e) (r : Sound s) (r′ : Sound (besides s e m)) where
   -- neither is refused with 10
-  checked-follows : (z z′ : After) → Follows z z′ → Follows (E.checked s z) (E.checked (besides s e m) z′)
+  pub checked-follows : (z z′ : After) → Follows z z′ → Follows (E.checked s z) (E.checked (besides s e m) z′)
   checked-follows z z′ f =
       subst (λ (w : After). Follows w (E.checked (besides s e m) z′)) (sym (taken z _ (means-sound s r)))
       (subst (λ (w : After). Follows z w) (sym (taken z′ _ (means-sound (besides s e m) r′))) f)
@@ -181,6 +191,25 @@ module _ (s : Session) (e m : ℕ) (h : Within (s .enabled) e) (r : Sound s) (r�
   capable-follows : (a : List ℕ) (found : Reading) → Follows (settled s (capable s a found)) (settled (besides s e m) (capable (besides s e m) a found))
   unfolding settled answered capable E.flagsAfter E.listAfter
   capable-follows a found = settle-follows (capable s a found) e m h _ _ _ _ (mismatched-shut (capable s a found)) (alike (capable s a found) e m h)
+
+  admitted-follows : (a : List ℕ) (found : Reading) (under : ℕ)
+      → Follows (admitted s (opening s a found) under) (admitted (besides s e m) (opening (besides s e m) a found) under)
+  unfolding admitted answered opening
+  admitted-follows a found under =
+      let t = opening s a found in
+      unless-shut (apart t) (apart (besides t e m)) (apart-more t e m h) _ _ _ _ (mismatched-shut t)
+      (unless-shut (atLimit t under) (atLimit (besides t e m) under) (limit-more t e m under h) _ _ _ _ (mismatched-shut t) (λ _. alike t e m h))
+
+  -- under limits: only a Ready session is told which applications are under theirs
+  pub limited-follows : (a : List ℕ) (under under′ : ℕ) → (isReady s ≡ true → under ≡ under′)
+      → Follows (limitedInitialization s a under) (limitedInitialization (besides s e m) a under′)
+  unfolding limitedInitialization
+  limited-follows a under under′ same =
+      checked-follows _ _
+      (pick-both Follows (isReady s)
+      (λ q. pick-both Follows (eqb (readArea a .refusal) 0)
+      (λ _. subst (λ (u : ℕ). Follows (admitted s (opening s a (readArea a)) under) (admitted (besides s e m) (opening (besides s e m) a (readArea a)) u)) (same q) (admitted-follows a (readArea a) under))
+      (λ _ k. alike s e m h)) (λ _ k. alike s e m h))
 
   pub step-follows : (ev : Event) → Follows (step s ev) (step (besides s e m) ev)
   unfolding E.initialization E.capability E.localChange E.mismatch E.hello E.closed answered

@@ -113,7 +113,7 @@ module _ (s : Session) (e m : ℕ) (h : Within (s .enabled) e) (r : Sound s) (r�
   never-less = record { second-open = is-open; permits = permits-more; further = λ k. (to-further k, from-further k) }
 
 -- ---- over the events
-alike-less : (s t : Session) → Alike s t → Sound s → Sound t → isOpen s ≡ true → NeverLess s t
+pub alike-less : (s t : Session) → Alike s t → Sound s → Sound t → isOpen s ≡ true → NeverLess s t
 unfolding t
 alike-less s u a r r′ o =
     subst (NeverLess s) (sym (a .same-else)) (never-less s (u .enabled) (u .next) (a .more) r (subst Sound (a .same-else) r′) o)
@@ -130,7 +130,7 @@ over s t ev (next ∷ es) a r r′ o =
     over (step s ev .session) (step t ev .session) next es (alike-step s t ev a r r′ (o .0)) (step-sound s ev r) (step-sound t ev r′) (o .1)
 
 -- the same said of applications and of members
-members : (a b : ℕ) → a < 2 ^ 13 → ((n : ℕ) → isIn a n ≡ true → isIn b n ≡ true) → Within a b
+pub members : (a b : ℕ) → a < 2 ^ 13 → ((n : ℕ) → isIn a n ≡ true → isIn b n ≡ true) → Within a b
 members a b small f k h = go (decLt k 13)
   where
     go : Dec (k < 13) → has b k ≡ true

@@ -339,7 +339,7 @@ count-lt (s ∷ row) (suc at) n l h =
     let less = count-lt row at n (omega arith) h in
     by-test (λ (m : ℕ). m + count row n < suc (length row)) (λ _. omega arith) (λ _. omega arith)
 
-shut-uses : (s : Session) (n : ℕ) → isOpen s ≡ false → uses s n ≡ false
+pub shut-uses : (s : Session) (n : ℕ) → isOpen s ≡ false → uses s n ≡ false
 unfolding used isIn
 shut-uses s n h = ap (λ (u : ℕ). knownApplication n && has u (n - 1)) (left _ _ (ap (λ (b : Bool). b && inForce s) h)) ∙ ap (λ (b : Bool). knownApplication n && b) (has-none (n - 1)) ∙ and-false (knownApplication n)
 

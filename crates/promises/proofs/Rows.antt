@@ -23,7 +23,7 @@ use Rattle.session.specs.declared.After.{After}
 use Rattle.session.specs.Session.{Sound, sound}
 use Rattle.session.specs.Events as E
 use Rattle.session.specs.Events.{refused, answered}
-use Rattle.session.specs.Limits.{used, limitedInitialization}
+use Rattle.session.specs.Limits.{used, admitted, limitedInitialization}
 use Rattle.session.proofs.SoundMeans.{sound-means, means-sound}
 use Rattle.session.proofs.StaysSound.{limited-initialization-kept, capability-kept, change-kept, mismatch-kept, hello-kept, closed-kept}
 use Rattle.row.specs.declared.Event.{Event as Numbers}
@@ -31,6 +31,8 @@ use Rattle.row.specs.declared.Limits.{Limits}
 use Rattle.row.specs.Event.{isOn, told, happens, writes}
 use Rattle.row.proofs.Tallied.{outside-row}
 use Rattle.row.specs.Row.{nobody, sessionAt, uses, count, underLimit, allSound, inRow, eventAt, rowAfter, roomAfter}
+use Rattle.promises.specs.Run.{Event, Initialization, Capability, LocalChange, Mismatch, Hello, Closed, step}
+use Rattle.promises.proofs.Runs.{refused-is-nothing, room-stays}
 use Rattle.promises.specs.Rows.{RowEvent, rowStep, rowThen, roomThen, rowRun, SoundOverRows, OthersStay, RowRefusedIsNothing, gains, losses, gainedBy, lostBy, IsFresh, AllFresh, CountsFollow}
 
 -- ---- one place of a row
@@ -169,3 +171,70 @@ fresh-counts (s ∷ row) n f = ap (λ (b : Bool). once b + count row n) (fresh-u
 
 pub counts-follow : CountsFollow
 counts-follow row es n f = run-counts row es n ∙ ap (λ (c : ℕ). c + gains row es n) (fresh-counts row n f) ∙ zero-add (gains row es n)
+
+-- ---- what is refused changes nothing
+module _ (s : Session) where
+  abbrev Bare : After → Type 0
+  Bare after = (after .answer .refusal ≡ 0 → ⊥) → after ≡ refused s (after .answer .refusal)
+
+  limited-bare : (a : List ℕ) (under : ℕ) → Bare (limitedInitialization s a under)
+  unfolding limitedInitialization admitted answered
+  limited-bare a under =
+      by-test Bare
+      (λ _. by-test Bare
+      (λ _. by-test Bare (λ _. by-test Bare (λ _ h. absurd (h refl)) (λ _. by-test Bare (λ _ h. absurd (h refl)) (λ _ h. absurd (h refl)))) (λ _ _. refl))
+      (λ _ _. refl))
+      (λ _ _. refl)
+
+  told-bare : (e : Numbers) → Bare (told e s)
+  unfolding told
+  told-bare e =
+      by-test Bare (λ _. refused-is-nothing s Mismatch)
+      (λ _. by-test Bare (λ _. refused-is-nothing s (Hello (e .number)))
+      (λ _. by-test Bare (λ _. refused-is-nothing s Closed) (λ _. by-test Bare (λ _ _. refl) (λ _ _. refl))))
+
+  happens-bare : (e : Numbers) (under : ℕ) (area room : List ℕ) → Bare (happens e s under area (length room))
+  unfolding happens
+  happens-bare e under area room =
+      by-test Bare (λ _. limited-bare area under)
+      (λ _. by-test Bare (λ _. refused-is-nothing s (Capability area))
+      (λ _. by-test Bare (λ _. refused-is-nothing s (LocalChange (e .«ta_id») (isOn e) room)) (λ _. told-bare e)))
+
+row-bare : (row : List Session) (e : RowEvent) → Bare (sessionAt row (e .at)) (rowStep row e)
+unfolding eventAt
+row-bare row e =
+    by-test (Bare s) (λ _. by-test (Bare s) (λ _. happens-bare s (e .event) (underLimit (e .limits) row) (e .area) (e .room)) (λ _ _. refl)) (λ _ _. refl)
+  where
+    s : Session
+    s = sessionAt row (e .at)
+
+-- where the event is a local change of a session in a sound row, it is that session's own
+change-in-row : (row : List Session) (e : RowEvent) → inRow row (e .at) ≡ true → allSound row ≡ true → eqb (e .event .which) 2 ≡ true
+    → rowStep row e ≡ step (sessionAt row (e .at)) (LocalChange (e .event .«ta_id») (isOn (e .event)) (e .room))
+unfolding eventAt happens
+change-in-row row e i a w =
+    let two = eqb-true (e .event .which) 2 w in
+    taken _ _ i ∙ taken _ _ a ∙ left _ _ (ap (λ (k : ℕ). eqb k 0) two) ∙ left _ _ (ap (λ (k : ℕ). eqb k 1) two) ∙ taken _ _ w
+
+refused-room : (row : List Session) (e : RowEvent) → (rowStep row e .answer .refusal ≡ 0 → ⊥) → roomThen row e ≡ e .room
+unfolding roomAfter writes
+refused-room row e h =
+    by-test Same
+    (λ i. by-test Same
+    (λ a. by-test Same
+    (λ w.
+        let own = change-in-row row e i a w in
+        let s = sessionAt row (e .at) in
+        let change = LocalChange (e .event .«ta_id») (isOn (e .event)) (e .room) in
+        room-stays s (e .event .«ta_id») (isOn (e .event)) (e .room)
+        (ap (λ (z : After). z .answer .written) (refused-is-nothing s change (λ z. h (ap (λ (y : After). y .answer .refusal) own ∙ z)))))
+    (λ _. refl))
+    (λ _. refl))
+    (λ _. refl)
+  where
+    Same : List ℕ → Type 0
+    Same room = room ≡ e .room
+
+pub row-refused-is-nothing : RowRefusedIsNothing
+row-refused-is-nothing row e h =
+    (ap (λ (z : After). set row (e .at) (z .session)) (row-bare row e h) ∙ set-getD row (e .at) nobody, refused-room row e h)

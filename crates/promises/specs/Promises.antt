@@ -1,9 +1,11 @@
--- All that is promised of sessions beyond what each function ensures. Assumes nothing.
+-- All that is promised of sessions and of rows of them beyond what each function ensures. Assumes nothing.
 use Rattle.record.specs.Record.{ReadBack, StoredBack}
 use Rattle.promises.specs.Run.{SoundOverRuns, RefusedIsNothing, RoomStays, RefusedCanGo}
 use Rattle.promises.specs.Condition3.{Condition3}
 use Rattle.promises.specs.Written.{ReadAsMeant}
 use Rattle.promises.specs.Records.{RecordsFollow}
+use Rattle.promises.specs.Rows.{SoundOverRows, OthersStay, RowRefusedIsNothing, CountsFollow, LimitIsMismatch, LimitsDecide, BaseWhereNoLimitBinds, NoLimitBindsUnset}
+use Rattle.promises.specs.RowCondition3.{RowCondition3}
 use Rattle.promises.specs.Examples.{Examples, WhyItStops, WhyAtThatMoment}
 
 pub record Promises : Type 0 where
@@ -16,6 +18,15 @@ pub record Promises : Type 0 where
   pub records-follow : RecordsFollow
   pub read-as-meant : ReadAsMeant
   pub condition-3 : Condition3
+  pub sound-over-rows : SoundOverRows
+  pub others-stay : OthersStay
+  pub row-refused-is-nothing : RowRefusedIsNothing
+  pub counts-follow : CountsFollow
+  pub limit-is-mismatch : LimitIsMismatch
+  pub limits-decide : LimitsDecide
+  pub base-where-no-limit-binds : BaseWhereNoLimitBinds
+  pub no-limit-binds-unset : NoLimitBindsUnset
+  pub row-condition-3 : RowCondition3
   pub examples : Examples
   pub why-it-stops : WhyItStops
   pub why-at-that-moment : WhyAtThatMoment

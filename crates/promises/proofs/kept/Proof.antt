@@ -4,6 +4,9 @@ use Rattle.promises.proofs.Runs.{sound-over-runs, refused-is-nothing, r
 use Rattle.promises.proofs.Condition3.{condition-3}
 use Rattle.promises.proofs.Written.{read-as-meant}
 use Rattle.promises.proofs.Records.{records-follow}
+use Rattle.promises.proofs.Rows.{sound-over-rows, others-stay, row-refused-is-nothing, counts-follow}
+use Rattle.promises.proofs.Limits.{limit-is-mismatch, limits-decide, base-where-no-limit-binds, no-limit-binds-unset}
+use Rattle.promises.proofs.RowCondition3.{row-condition-3}
 use Rattle.promises.proofs.Examples.{examples, why-it-stops, why-at-that-moment}
 use Rattle.promises.proofs.kept.Statement.{statement}
 use Rattle.promises.proofs.kept.Tie as tie
@@ -20,6 +23,15 @@ returns c =
       records-follow = records-follow;
       read-as-meant = read-as-meant;
       condition-3 = condition-3;
+      sound-over-rows = sound-over-rows;
+      others-stay = others-stay;
+      row-refused-is-nothing = row-refused-is-nothing;
+      counts-follow = counts-follow;
+      limit-is-mismatch = limit-is-mismatch;
+      limits-decide = limits-decide;
+      base-where-no-limit-binds = base-where-no-limit-binds;
+      no-limit-binds-unset = no-limit-binds-unset;
+      row-condition-3 = row-condition-3;
       examples = examples;
       why-it-stops = why-it-stops;
       why-at-that-moment = why-at-that-moment;

@@ -1,0 +1,192 @@
+-- Condition 3 for a session in a row. The invariant of the two rows: as long, both sound, the one session alike in both and, where it is Ready, the same
+-- applications under their limits. It is Ready only at the start, where the rows are alike but for it and it uses nothing in either; later an Initialization
+-- is refused in both. By the laws of one event, and induction over the events. Assumes nothing.
+use Prim.Native.Nat.{ℕ, zero, suc, _+_, _<_, _≤_}
+use mathlib.Core.Path.{_≡_, refl, sym, ap, ap₂, _∙_, subst}
+use mathlib.Core.Bool.{Bool, true, false, _&&_, true≢false}
+use mathlib.Core.List.{List, [], _∷_}
+use lib.ListN.{length, List·getD-eq-default}
+use lib.Dec.{eqb, ltb, leb}
+use native.Mathlib.Decide.{decLt, ℕ-discrete}
+use native.Mathlib.Omega.{arith}
+use borrow.Author.Tests.{eqb-true}
+use Rattle.choice.specs.Pick.{pick}
+use Rattle.choice.proofs.Branch.{taken, left, pick-both}
+use Rattle.sets.specs.Set.{Within}
+use Rattle.sets.proofs.Chosen.{chosen-same}
+use Rattle.session.specs.declared.Session.{Session}
+use Rattle.session.specs.declared.After.{After}
+use Rattle.session.specs.Session.{Sound, sound, isReady, isOpen, besides}
+use Rattle.session.specs.Events as E
+use Rattle.session.specs.Events.{refused}
+use Rattle.session.proofs.SoundMeans.{sound-means}
+use Rattle.session.proofs.StaysSound.{ready-shut}
+use Rattle.row.specs.declared.Event.{Event as Numbers}
+use Rattle.row.specs.declared.Limits.{Limits}
+use Rattle.row.specs.Limits.{limitOf}
+use Rattle.row.specs.Event.{isOn, told, happens}
+use Rattle.row.specs.Row.{nobody, sessionAt, uses, count, underLimit, allSound, inRow, eventAt}
+use Rattle.promises.specs.Run.{Capability, LocalChange, Mismatch, Hello, Closed}
+use Rattle.promises.specs.Condition3.{ReadyPair, NeverLess}
+use Rattle.promises.specs.Rows.{RowEvent, rowStep, rowThen, rowRun}
+use Rattle.promises.specs.RowCondition3.{RowPair, StaysOpenAt, RowCondition3}
+use Rattle.promises.proofs.Alike.{Alike, alike, Follows, checked-follows, limited-follows, step-follows}
+use Rattle.promises.proofs.Condition3.{alike-less, members}
+use Rattle.promises.proofs.Rows.{at-set, others-stay, rows-length, sound-at, then-sound}
+use Rattle.promises.proofs.Limits.{shut-uses}
+
+-- ---- one event of the one session
+module _ (s : Session) (e m : ℕ) (h : Within (s .enabled) e) (r : Sound s) (r′ : Sound (besides s e m)) (ev : Numbers) (area room : List ℕ) where
+  told-follows : Follows (told ev s) (told ev (besides s e m))
+  unfolding told
+  told-follows =
+      pick-both Follows (eqb (ev .which) 3) (λ _. step-follows s e m h r r′ Mismatch)
+      (λ _. pick-both Follows (eqb (ev .which) 4) (λ _. step-follows s e m h r r′ (Hello (ev .number)))
+      (λ _. pick-both Follows (eqb (ev .which) 5) (λ _. step-follows s e m h r r′ Closed)
+      (λ _. checked-follows s e m h r r′ (refused s 7) (refused (besides s e m) 7) (λ _. alike s e m h))))
+
+  happens-follows : (under under′ : ℕ) → (isReady s ≡ true → under ≡ under′)
+      → Follows (happens ev s under area (length room)) (happens ev (besides s e m) under′ area (length room))
+  unfolding happens
+  happens-follows under under′ same =
+      pick-both Follows (eqb (ev .which) 0) (λ _. limited-follows s e m h r r′ area under under′ same)
+      (λ _. pick-both Follows (eqb (ev .which) 1) (λ _. step-follows s e m h r r′ (Capability area))
+      (λ _. pick-both Follows (eqb (ev .which) 2) (λ _. step-follows s e m h r r′ (LocalChange (ev .«ta_id») (isOn ev) room)) (λ _. told-follows)))
+
+-- ---- the two rows
+record Both (r t : List Session) (at : ℕ) : Type 0 where
+  pub inside : at < length r
+  pub same-length : length r ≡ length t
+  pub first-sound : allSound r ≡ true
+  pub second-sound : allSound t ≡ true
+  pub like : Alike (sessionAt r at) (sessionAt t at)
+  pub same-under : isReady (sessionAt r at) ≡ true → (l : Limits) → underLimit l r ≡ underLimit l t
+
+module _ (r t : List Session) (at : ℕ) (b : Both r t at) where
+  first-is : Sound (sessionAt r at)
+  first-is = sound-means (sessionAt r at) (sound-at r at (b .first-sound) (b .inside))
+
+  second-is : Sound (sessionAt t at)
+  second-is = sound-means (sessionAt t at) (sound-at t at (b .second-sound) (rw (sym (b .same-length)) (b .inside)))
+
+  -- the event of the one session
+  happens-both : (ev : Numbers) (l : Limits) (area room : List ℕ)
+      → Follows (happens ev (sessionAt r at) (underLimit l r) area (length room)) (happens ev (sessionAt t at) (underLimit l t) area (length room))
+  happens-both ev l area room =
+      let like = b .like in
+      subst (λ (z : Session). Follows (happens ev (sessionAt r at) (underLimit l r) area (length room)) (happens ev z (underLimit l t) area (length room))) (sym (like .same-else))
+      (happens-follows (sessionAt r at) (sessionAt t at .enabled) (sessionAt t at .next) (like .more) first-is (subst Sound (like .same-else) second-is) ev area room
+      (underLimit l r) (underLimit l t) (λ q. b .same-under q l))
+
+  own-event : (ev : Numbers) (l : Limits) (area room : List ℕ) → Follows (eventAt r at ev l area (length room)) (eventAt t at ev l area (length room))
+  unfolding eventAt
+  own-event ev l area room =
+      subst (Follows (eventAt r at ev l area (length room))) (sym second-step) (subst (λ (z : After). Follows z (in-second (inRow r at))) (sym first-step)
+      (pick-both Follows (inRow r at) (λ _. happens-both ev l area room) (λ _ _. b .like)))
+    where
+      in-second : Bool → After
+      in-second x = pick x (happens ev (sessionAt t at) (underLimit l t) area (length room)) (refused (sessionAt t at) 11)
+
+      first-step : eventAt r at ev l area (length room) ≡ pick (inRow r at) (happens ev (sessionAt r at) (underLimit l r) area (length room)) (refused (sessionAt r at) 11)
+      first-step = ap (λ (z : After). pick (inRow r at) z (refused (sessionAt r at) 11)) (taken _ _ (b .first-sound))
+
+      second-step : eventAt t at ev l area (length room) ≡ in-second (inRow r at)
+      second-step = ap (λ (z : After). pick (inRow t at) z (refused (sessionAt t at) 11)) (taken _ _ (b .second-sound)) ∙ ap in-second (ap (λ (k : ℕ). ltb at k && leb k 64) (sym (b .same-length)))
+
+-- Open is not Ready
+open-ready : (s : Session) → isOpen s ≡ true → isReady s ≡ true → ⊥
+open-ready s o r = let one = eqb-true (s .state) 1 o in let none = eqb-true (s .state) 0 r in omega arith
+
+-- every event: the two rows after it
+both-after : (r t : List Session) (at : ℕ) (e : RowEvent) → Both r t at → isOpen (sessionAt (rowThen r e) at) ≡ true → Both (rowThen r e) (rowThen t e) at
+both-after r t at e b o =
+    record {
+      inside = rw (rows-length r e) (b .inside);
+      same-length = rows-length r e ∙ b .same-length ∙ sym (rows-length t e);
+      first-sound = then-sound r e (b .first-sound);
+      second-sound = then-sound t e (b .second-sound);
+      like = go (ℕ-discrete at (e .at));
+      same-under = λ q. absurd (open-ready (sessionAt (rowThen r e) at) o q);
+    }
+  where
+    go : Dec (at ≡ e .at) → Alike (sessionAt (rowThen r e) at) (sessionAt (rowThen t e) at)
+    go (yes same) =
+        let inside : e .at < length r = rw (sym same) (b .inside) in
+        let first : sessionAt (rowThen r e) at ≡ rowStep r e .session = ap (sessionAt (rowThen r e)) same ∙ at-set r (e .at) (rowStep r e .session) inside in
+        let second : sessionAt (rowThen t e) at ≡ rowStep t e .session =
+            ap (sessionAt (rowThen t e)) same ∙ at-set t (e .at) (rowStep t e .session) (rw (sym (b .same-length)) inside) in
+        let b′ : Both r t (e .at) = subst (Both r t) same b in
+        subst (λ (z : Session). Alike (sessionAt (rowThen r e) at) z) (sym second) (subst (λ (z : Session). Alike z (rowStep t e .session)) (sym first)
+        (own-event r t (e .at) b′ (e .event) (e .limits) (e .area) (e .room) (sym (ap isOpen first) ∙ o)))
+    go (no d) =
+        subst (λ (z : Session). Alike (sessionAt (rowThen r e) at) z) (sym (others-stay t e at d))
+        (subst (λ (z : Session). Alike z (sessionAt t at)) (sym (others-stay r e at d)) (b .like))
+
+-- ---- over the events
+over : (r t : List Session) (at : ℕ) (e : RowEvent) (es : List RowEvent) → Both r t at → StaysOpenAt at r (e ∷ es)
+    → NeverLess (sessionAt (rowRun r (e ∷ es)) at) (sessionAt (rowRun t (e ∷ es)) at)
+over r t at e [] b o =
+    let b′ = both-after r t at e b (o .0) in
+    alike-less (sessionAt (rowThen r e) at) (sessionAt (rowThen t e) at) (b′ .like) (first-is (rowThen r e) (rowThen t e) at b′) (second-is (rowThen r e) (rowThen t e) at b′) (o .0)
+over r t at e (next ∷ es) b o = over (rowThen r e) (rowThen t e) at next es (both-after r t at e b (o .0)) (o .1)
+
+-- ---- the start
+-- rows of the same sessions
+counts-same : (r t : List Session) (n : ℕ) → length r ≡ length t → ((k : ℕ) → sessionAt r k ≡ sessionAt t k) → count r n ≡ count t n
+unfolding count
+counts-same [] [] n len same = refl
+counts-same [] (y ∷ t) n len same = absurd (omega arith)
+counts-same (x ∷ r) [] n len same = absurd (omega arith)
+counts-same (x ∷ r) (y ∷ t) n len same =
+    ap₂ (λ (c d : ℕ). c + d) (ap (λ (s : Session). pick (uses s n) 1 0) (same zero)) (counts-same r t n (omega arith) (λ k. same (suc k)))
+
+-- the rows count alike where the one session uses nothing in either
+counts-alike : (r t : List Session) (at n : ℕ) → length r ≡ length t → ((k : ℕ) → (k ≡ at → ⊥) → sessionAt r k ≡ sessionAt t k)
+    → uses (sessionAt r at) n ≡ false → uses (sessionAt t at) n ≡ false → count r n ≡ count t n
+unfolding count
+counts-alike [] [] at n len same a b = refl
+counts-alike [] (y ∷ t) at n len same a b = absurd (omega arith)
+counts-alike (x ∷ r) [] at n len same a b = absurd (omega arith)
+counts-alike (x ∷ r) (y ∷ t) zero n len same a b =
+    ap₂ (λ (c d : ℕ). c + d) (ap (λ (v : Bool). pick v 1 0) (a ∙ sym b)) (counts-same r t n (omega arith) (λ k. same (suc k) (λ z. absurd (omega arith))))
+counts-alike (x ∷ r) (y ∷ t) (suc at) n len same a b =
+    ap₂ (λ (c d : ℕ). c + d) (ap (λ (s : Session). pick (uses s n) 1 0) (same zero (λ z. absurd (omega arith))))
+    (counts-alike r t at n (omega arith) (λ k d. same (suc k) (λ z. d (omega arith))) a b)
+
+-- past the end of a row no session is sound
+is-inside : (r : List Session) (at : ℕ) → sound (sessionAt r at) ≡ true → at < length r
+is-inside r at h = go (decLt at (length r))
+  where
+    go : Dec (at < length r) → at < length r
+    go (yes l) = l
+    go (no d) =
+        let none : sound nobody ≡ true = sym (ap sound (List·getD-eq-default r nobody {n = at} (omega arith))) ∙ h in
+        let state = sound-means nobody none .state in
+        absurd (omega arith)
+
+module _ (r t : List Session) (at : ℕ) (p : RowPair r t at) where
+  begins : Both r t at
+  unfolding underLimit
+  begins =
+      let s = sessionAt r at in
+      let u = sessionAt t at in
+      let pair = p .pair in
+      let first = sound-means s (pair .first-sound) in
+      let second = sound-means u (pair .second-sound) in
+      let next : u .next ≡ s .next = ap (λ (z : Session). z .next) (pair .alike) in
+      let ready : isReady u ≡ true = ap isReady (pair .alike) ∙ pair .first-ready in
+      let shut : isOpen s ≡ false = ready-shut (s .state) (first .state) (pair .first-ready) in
+      let shut′ : isOpen u ≡ false = ready-shut (u .state) (second .state) ready in
+      record {
+        inside = is-inside r at (pair .first-sound);
+        same-length = p .same-length;
+        first-sound = p .first-sound;
+        second-sound = p .second-sound;
+        like = record { same-else = pair .alike ∙ ap (besides s (u .enabled)) (sym next); more = members (s .enabled) (u .enabled) (first .enabled) (pair .more) };
+        same-under = λ _ l.
+            chosen-same 13 (λ n. ltb (count r n) (limitOf l n)) (λ n. ltb (count t n) (limitOf l n)) 13
+            (λ n _ _. ap (λ (c : ℕ). ltb c (limitOf l n)) (counts-alike r t at n (p .same-length) (p .others) (shut-uses s n shut) (shut-uses u n shut′)));
+      }
+
+pub row-condition-3 : RowCondition3
+row-condition-3 r t first es p o = over r t (first .at) first es (begins r t (first .at) p) o
