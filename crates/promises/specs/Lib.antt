@@ -6,4 +6,5 @@ pub mod Records
 pub mod Rows
 pub mod RowCondition3
 pub mod Examples
+pub mod RowExamples
 pub mod Promises

@@ -1,5 +1,6 @@
 -- All that is promised of sessions and of rows of them beyond what each function ensures. Assumes nothing.
 use Rattle.record.specs.Record.{ReadBack, StoredBack}
+use Rattle.record.specs.Loaded.{LoadedBack, KeptAsLoaded}
 use Rattle.promises.specs.Run.{SoundOverRuns, RefusedIsNothing, RoomStays, RefusedCanGo}
 use Rattle.promises.specs.Condition3.{Condition3}
 use Rattle.promises.specs.Written.{ReadAsMeant}
@@ -7,6 +8,7 @@ use Rattle.promises.specs.Records.{RecordsFollow}
 use Rattle.promises.specs.Rows.{SoundOverRows, OthersStay, RowRefusedIsNothing, CountsFollow, LimitIsMismatch, LimitsDecide, BaseWhereNoLimitBinds, NoLimitBindsUnset}
 use Rattle.promises.specs.RowCondition3.{RowCondition3}
 use Rattle.promises.specs.Examples.{Examples, WhyItStops, WhyAtThatMoment}
+use Rattle.promises.specs.RowExamples.{RowExamples, WhyTheOneSession}
 
 pub record Promises : Type 0 where
   pub sound-over-runs : SoundOverRuns
@@ -30,3 +32,7 @@ pub record Promises : Type 0 where
   pub examples : Examples
   pub why-it-stops : WhyItStops
   pub why-at-that-moment : WhyAtThatMoment
+  pub loaded-back : LoadedBack
+  pub kept-as-loaded : KeptAsLoaded
+  pub row-examples : RowExamples
+  pub why-the-one-session : WhyTheOneSession

@@ -5,18 +5,20 @@ use mathlib.Core.Path.{_≡_, refl, sym, ap, _∙_, subst}
 use mathlib.Core.Bool.{Bool, true, false, false≢true}
 use mathlib.Core.List.{List, [], _∷_}
 use native.Mathlib.Omega.{arith}
-use borrow.Author.Tests.{eqb-true}
+use borrow.Author.Tests.{eqb-true, eq-eqb}
 use lib.Dec.{eqb}
 use lib.ListN.{length, getD}
 use Rattle.choice.specs.Pick.{pick}
-use Rattle.choice.proofs.Branch.{taken, left}
+use Rattle.choice.proofs.Branch.{taken, left, by-test}
 use Rattle.choice.proofs.Tests.{and-first, and-second}
 use Rattle.octets.specs.Octets.{leAt16}
 use Rattle.octets.proofs.Numbers.{back16, back32, two-0, two-1, four-0, four-1, four-2, four-3}
 use Rattle.session.specs.declared.Session.{Session}
 use Rattle.session.specs.Session.{spareZero, sound}
 use Rattle.session.proofs.SoundMeans.{sound-means}
-use Rattle.record.specs.Record.{encoded, headed, fields, noSession, decoded, ReadBack, StoredBack}
+use Rattle.record.specs.declared.Loaded.{Loaded}
+use Rattle.record.specs.Record.{encoded, stored, headed, fields, noSession, decoded, ReadBack, StoredBack}
+use Rattle.record.specs.Loaded.{loaded, storedSound, LoadedBack, KeptAsLoaded}
 
 pub read-back : ReadBack
 unfolding decoded headed pick
@@ -97,3 +99,18 @@ stored-back l o ok = go (eqb (length l) 22) refl (headed l) refl
     go false e y f = none (left _ noSession e)
     go true e false f = none (taken _ noSession e ∙ left (fields l) noSession f)
     go true e true f = ap encoded (taken _ noSession e ∙ taken (fields l) noSession f) ∙ again l o (eqb-true (length l) 22 e) f
+
+-- ---- in and out of a row
+pub loaded-back : LoadedBack
+unfolding loaded storedSound stored
+loaded-back s l h hello next long =
+    let kept : storedSound s l ≡ encoded s = taken _ _ h ∙ taken _ _ (eq-eqb (length l) 22 long) in
+    let back : decoded (storedSound s l) ≡ s = ap decoded kept ∙ read-back s h hello next in
+    taken _ _ (ap sound back ∙ h) ∙ ap (λ (t : Session). record { refusal = 0; session = t }) back
+
+pub kept-as-loaded : KeptAsLoaded
+unfolding loaded storedSound stored
+kept-as-loaded l octets h =
+    let there : loaded l .session ≡ decoded l = ap (λ (t : Loaded). t .session) (taken _ _ h) in
+    ap (λ (t : Session). storedSound t l) there ∙ taken _ _ h
+    ∙ by-test (λ (m : List ℕ). m ≡ l) (λ _. stored-back l octets h) (λ _. refl)

@@ -1,7 +1,9 @@
 -- A session taken out of its record for a row, and put back. Assumes nothing.
-use Prim.Native.Nat.{ℕ}
+use Prim.Native.Nat.{ℕ, _<_, _^_}
+use mathlib.Core.Path.{_≡_}
+use mathlib.Core.Bool.{true}
 use mathlib.Core.List.{List}
-use lib.ListN.{length}
+use lib.ListN.{length, getD}
 use lib.Dec.{eqb}
 use Rattle.choice.specs.Pick.{pick}
 use Rattle.session.specs.declared.Session.{Session}
@@ -20,3 +22,13 @@ storeRefusal s l = pick (sound s) (pick (eqb (length l) 22) 0 10) 10
 -- the record after it: refused, as it was
 unfoldable pub storedSound : Session → List ℕ → List ℕ
 storedSound s l = pick (sound s) (stored s l) l
+
+-- a sound session stored in a record is loaded as it was
+abbrev pub LoadedBack : Type 0
+LoadedBack =
+    (s : Session) (l : List ℕ) → sound s ≡ true → s .hello < 2 ^ 32 → s .next < 2 ^ 32 → length l ≡ 22
+    → loaded (storedSound s l) ≡ record { refusal = 0; session = s }
+
+-- and one that was loaded, stored again, leaves the record as it was
+abbrev pub KeptAsLoaded : Type 0
+KeptAsLoaded = (l : List ℕ) → ((i : ℕ) → getD l i 0 < 256) → sound (decoded l) ≡ true → storedSound (loaded l .session) l ≡ l

@@ -1,5 +1,5 @@
 -- `promises::kept` meets its contract: each promise by its theorem. Assumes nothing.
-use Rattle.record.proofs.RoundTrip.{read-back, stored-back}
+use Rattle.record.proofs.RoundTrip.{read-back, stored-back, loaded-back, kept-as-loaded}
 use Rattle.promises.proofs.Runs.{sound-over-runs, refused-is-nothing, room-stays, refused-can-go}
 use Rattle.promises.proofs.Condition3.{condition-3}
 use Rattle.promises.proofs.Written.{read-as-meant}
@@ -8,6 +8,7 @@ use Rattle.promises.proofs.Rows.{sound-over-rows, others-stay, row-refu
 use Rattle.promises.proofs.Limits.{limit-is-mismatch, limits-decide, base-where-no-limit-binds, no-limit-binds-unset}
 use Rattle.promises.proofs.RowCondition3.{row-condition-3}
 use Rattle.promises.proofs.Examples.{examples, why-it-stops, why-at-that-moment}
+use Rattle.promises.proofs.RowExamples.{row-examples, why-the-one-session}
 use Rattle.promises.proofs.kept.Statement.{statement}
 use Rattle.promises.proofs.kept.Tie as tie
 
@@ -35,6 +36,10 @@ returns c =
       examples = examples;
       why-it-stops = why-it-stops;
       why-at-that-moment = why-at-that-moment;
+      loaded-back = loaded-back;
+      kept-as-loaded = kept-as-loaded;
+      row-examples = row-examples;
+      why-the-one-session = why-the-one-session;
     }
 
 pub kept-spec : {M : Type 1} → statement M
