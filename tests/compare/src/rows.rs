@@ -168,7 +168,8 @@ pub fn limits(numbers: &mut Numbers, row: &[Fields], few: u16) -> Limits {
         of: std::array::from_fn(|place| {
             let count = counts[place];
             match sort {
-                // None has a place left.
+                // None has a place left, most of them just not.
+                0 if numbers.chance(70) => count,
                 0 => numbers.between(0, count.into()) as u8,
                 // Only some have one.
                 1 => count + u8::from(some >> place & 1 == 1),
