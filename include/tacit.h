@@ -93,9 +93,9 @@ enum tacit_refusal {
                                        octets of room */
     TACIT_REFUSED_NOT_DYNAMIC = 9,  /* there is a message to write, and the peer takes no
                                        Capability messages */
-    TACIT_REFUSED_NOT_SOUND   = 10, /* the record, or a session of the row, is not sound
-                                       (see tacit_sound); at creation and at
-                                       tacit_store, record_len is not 22 */
+    TACIT_REFUSED_NOT_SOUND   = 10, /* the record, the session or any session of the row
+                                       is not sound (see tacit_sound); at creation and
+                                       at tacit_store, record_len is not 22 */
     TACIT_REFUSED_ROW         = 11, /* the row is empty or has more than 64 sessions, or
                                        the row number is outside it */
     TACIT_REFUSED_LIMIT       = 12  /* a limit to be set is over 64 */
@@ -522,7 +522,7 @@ bool tacit_sound(const uint8_t *record, size_t record_len);
 /* The session of a record. Refusals: 10. */
 struct tacit_loaded tacit_load(const uint8_t *record, size_t record_len);
 
-/* Stores a session in a record of 22 octets. Returns the refusal: 10. */
+/* Stores a sound session in a record of 22 octets. Returns the refusal: 10. */
 uint8_t tacit_store(struct tacit_session session, uint8_t *record, size_t record_len);
 
 /* 64 for every application: no row has more sessions, so none is turned away. */
@@ -540,7 +540,7 @@ struct tacit_count tacit_row_count(const struct tacit_session *row, size_t row_l
  * is one that does; the room is written only by a local change.
  *
  * Refusals: 11; 10 for any session of the row; then those of the event, in its
- * order. Refused, the row and the room are exactly as they were.
+ * order. Refused, every field of the row and every octet of the room is as it was.
  */
 struct tacit_answer tacit_row_event(struct tacit_session *row, size_t row_len, size_t at,
                                     struct tacit_event event, struct tacit_limits limits,
