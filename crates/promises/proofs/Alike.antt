@@ -20,7 +20,7 @@ use Rattle.area.specs.Area.{readArea}
 use Rattle.session.specs.declared.Session.{Session}
 use Rattle.session.specs.declared.After.{After}
 use Rattle.session.specs.Session as S
-use Rattle.session.specs.Session.{isReady, isOpen, isGone, usesTac, inForce, dynamic, recorded, negotiated, Sound, mismatched, apart, woken, besides, changed}
+use Rattle.session.specs.Session.{isReady, isOpen, isGone, usesTac, inForce, dynamic, recorded, negotiated, Sound, apart, woken, besides, changed}
 use Rattle.session.specs.Events as E
 use Rattle.session.specs.Events.{unchanged, answered, settled, opening, capable, same, sent, writing}
 use Rattle.session.specs.Limits.{atLimit, admitted, limitedInitialization}

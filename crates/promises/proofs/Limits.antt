@@ -9,7 +9,7 @@ use lib.ListN.{length, getD-replicate}
 use lib.Dec.{eqb, ltb, leb, lit<, lit≤}
 use native.Mathlib.Decide.{decLt}
 use native.Mathlib.Omega.{arith}
-use borrow.Author.Tests.{ltb-true, lt-ltb, leb-true, eq-eqb, eqb-true, eqb-false}
+use borrow.Author.Tests.{ltb-true, lt-ltb, leb-true, eq-eqb}
 use Rattle.choice.specs.Pick.{pick}
 use Rattle.choice.proofs.Branch.{by-test, taken, left, pick-both}
 use Rattle.choice.proofs.Tests.{and-first, and-second, and-both}
@@ -21,11 +21,10 @@ use Rattle.sets.proofs.Members.{has-common, has-none, has-above, ext}
 use Rattle.sets.proofs.Subsets.{empty-lacks}
 use Rattle.sets.proofs.Switches.{numbered-is, is-numbered}
 use Rattle.kinds.specs.Kinds.{knownApplication, isIn}
-use Rattle.area.specs.declared.Reading.{Reading}
 use Rattle.area.specs.Area.{readArea}
 use Rattle.session.specs.declared.Session.{Session}
 use Rattle.session.specs.declared.After.{After}
-use Rattle.session.specs.Session.{Sound, sound, isReady, isOpen, inForce, negotiated, apart, mismatched}
+use Rattle.session.specs.Session.{sound, isReady, isOpen, inForce, negotiated, apart, mismatched}
 use Rattle.session.specs.Events as E
 use Rattle.session.specs.Events.{answered, settled, sent, writing, opening}
 use Rattle.session.specs.Limits.{used, atLimit, admitted, limitedInitialization}
@@ -39,7 +38,7 @@ use Rattle.row.specs.Event.{isOn, told, happens}
 use Rattle.row.specs.Row.{sessionAt, uses, count, underLimit, allSound, inRow, eventAt}
 use Rattle.row.proofs.Tallied.{capped-is, count-le}
 use Rattle.promises.specs.Run.{Event, Initialization, Capability, LocalChange, Mismatch, Hello, Closed, step}
-use Rattle.promises.specs.Rows.{RowEvent, rowStep, rowRun, TurnedAway, LimitIsMismatch, FindsCommon, UnderLimit, LimitDecides, LimitsDecide, baseOf, InRow, BaseWhereNoLimitBinds, NoLimitBindsUnset}
+use Rattle.promises.specs.Rows.{RowEvent, rowStep, rowRun, TurnedAway, LimitIsMismatch, FindsCommon, UnderLimit, LimitDecides, LimitsDecide, BaseWhereNoLimitBinds, NoLimitBindsUnset}
 use Rattle.promises.proofs.Rows.{sound-at}
 
 -- ---- outcome 3 is of no base event
@@ -199,10 +198,13 @@ module _ (row : List Session) (l : Limits) where
       let both = sym (has-common applications (underLimit l row) k) ∙ m .is-in in
       let mine = and-first (has applications k) (has (underLimit l row) k) both in
       let place : k + 1 - 1 ≡ k = omega arith in
-      let known = is-numbered 13 (k + 1) (omega arith) (within k mine (decLt k 13)) in
-      (k + 1,
-        (and-both (knownApplication (k + 1)) _ known (rw place mine),
-        ltb-true (count row (k + 1)) (limitOf l (k + 1)) (sym (under-has (k + 1) (omega arith) (within k mine (decLt k 13))) ∙ rw place (and-second (has applications k) (has (underLimit l row) k) both))))
+      let known = is-numbered 13 (k + 1) (omega arith) (within k mine (decLt k 13)) in (
+        k + 1,
+        (
+          and-both (knownApplication (k + 1)) _ known (rw place mine),
+          ltb-true (count row (k + 1)) (limitOf l (k + 1)) (sym (under-has (k + 1) (omega arith) (within k mine (decLt k 13))) ∙ rw place (and-second (has applications k) (has (underLimit l row) k) both)),
+        ),
+      )
     where
       within : (k : ℕ) → has applications k ≡ true → Dec (k < 13) → k + 1 ≤ 13
       within k h (yes l) = omega arith
@@ -374,8 +376,8 @@ module _ (row : List Session) (e : RowEvent) (u : e .limits ≡ noLimits) (h : r
       let t = open-one row e in
       let small = common-lt 13 (one row e .enabled) (t .listed) (sound-means (one row e) (found .three .is-sound) .enabled) in
       let whole : common (negotiated t) (underLimit (e .limits) row) ≡ negotiated t =
-          ext 13 _ _ (common-lt 13 (negotiated t) (underLimit (e .limits) row) small) small
-          (λ k l. has-common (negotiated t) (underLimit (e .limits) row) k ∙ ap (λ (b : Bool). has (negotiated t) k && b) (all-under k l) ∙ and-true (has (negotiated t) k)) in
+      ext 13 _ _ (common-lt 13 (negotiated t) (underLimit (e .limits) row) small) small
+      (λ k l. has-common (negotiated t) (underLimit (e .limits) row) k ∙ ap (λ (b : Bool). has (negotiated t) k && b) (all-under k l) ∙ and-true (has (negotiated t) k)) in
       true≢false (sym (found .three .at-limit) ∙ ap (λ (m : ℕ). inForce t && empty m) whole ∙ found .three .together)
 
 pub no-limit-binds-unset : NoLimitBindsUnset

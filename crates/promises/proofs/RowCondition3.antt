@@ -1,9 +1,9 @@
 -- Condition 3 for a session in a row. The invariant of the two rows: as long, both sound, the one session alike in both and, where it is Ready, the same
 -- applications under their limits. It is Ready only at the start, where the rows are alike but for it and it uses nothing in either; later an Initialization
 -- is refused in both. By the laws of one event, and induction over the events. Assumes nothing.
-use Prim.Native.Nat.{ℕ, zero, suc, _+_, _<_, _≤_}
+use Prim.Native.Nat.{ℕ, zero, suc, _+_, _<_}
 use mathlib.Core.Path.{_≡_, refl, sym, ap, ap₂, _∙_, subst}
-use mathlib.Core.Bool.{Bool, true, false, _&&_, true≢false}
+use mathlib.Core.Bool.{Bool, true, false, _&&_}
 use mathlib.Core.List.{List, [], _∷_}
 use lib.ListN.{length, List·getD-eq-default}
 use lib.Dec.{eqb, ltb, leb}
@@ -11,7 +11,7 @@ use native.Mathlib.Decide.{decLt, ℕ-discrete}
 use native.Mathlib.Omega.{arith}
 use borrow.Author.Tests.{eqb-true}
 use Rattle.choice.specs.Pick.{pick}
-use Rattle.choice.proofs.Branch.{taken, left, pick-both}
+use Rattle.choice.proofs.Branch.{taken, pick-both}
 use Rattle.sets.specs.Set.{Within}
 use Rattle.sets.proofs.Chosen.{chosen-same}
 use Rattle.session.specs.declared.Session.{Session}
@@ -27,7 +27,7 @@ use Rattle.row.specs.Limits.{limitOf}
 use Rattle.row.specs.Event.{isOn, told, happens}
 use Rattle.row.specs.Row.{nobody, sessionAt, uses, count, underLimit, allSound, inRow, eventAt}
 use Rattle.promises.specs.Run.{Capability, LocalChange, Mismatch, Hello, Closed}
-use Rattle.promises.specs.Condition3.{ReadyPair, NeverLess}
+use Rattle.promises.specs.Condition3.{NeverLess}
 use Rattle.promises.specs.Rows.{RowEvent, rowStep, rowThen, rowRun}
 use Rattle.promises.specs.RowCondition3.{RowPair, StaysOpenAt, RowCondition3}
 use Rattle.promises.proofs.Alike.{Alike, alike, Follows, checked-follows, limited-follows, step-follows}
@@ -114,7 +114,7 @@ both-after r t at e b o =
         let inside : e .at < length r = rw (sym same) (b .inside) in
         let first : sessionAt (rowThen r e) at ≡ rowStep r e .session = ap (sessionAt (rowThen r e)) same ∙ at-set r (e .at) (rowStep r e .session) inside in
         let second : sessionAt (rowThen t e) at ≡ rowStep t e .session =
-            ap (sessionAt (rowThen t e)) same ∙ at-set t (e .at) (rowStep t e .session) (rw (sym (b .same-length)) inside) in
+        ap (sessionAt (rowThen t e)) same ∙ at-set t (e .at) (rowStep t e .session) (rw (sym (b .same-length)) inside) in
         let b′ : Both r t (e .at) = subst (Both r t) same b in
         subst (λ (z : Session). Alike (sessionAt (rowThen r e) at) z) (sym second) (subst (λ (z : Session). Alike z (rowStep t e .session)) (sym first)
         (own-event r t (e .at) b′ (e .event) (e .limits) (e .area) (e .room) (sym (ap isOpen first) ∙ o)))

@@ -1,19 +1,19 @@
 -- Rows of sessions: sound rows stay sound, an event touches one session, counts follow what is gained and lost, a session turned away by a limit is in the
 -- state of a mismatch, limits decide as asked, and where none binds the row's events are the base's. By the laws of one event and of one place in a list,
 -- and induction over the row and the events. Assumes nothing.
-use Prim.Native.Nat.{ℕ, zero, suc, _+_, _-_, _^_, _<_, _≤_}
-use mathlib.Core.Path.{_≡_, refl, sym, ap, _∙_, subst}
-use mathlib.Core.Bool.{Bool, true, false, not, _&&_, true≢false, false≢true}
+use Prim.Native.Nat.{ℕ, zero, suc, _+_, _-_, _<_, _≤_}
+use mathlib.Core.Path.{_≡_, refl, sym, ap, _∙_}
+use mathlib.Core.Bool.{Bool, true, false, not, _&&_}
 use mathlib.Core.List.{List, [], _∷_}
-use lib.ListN.{length, getD, set, length-set, List·getD-eq-default}
+use lib.ListN.{length, set, length-set}
 use lib.Seq.{getD-set-same, getD-set-other, set-getD}
-use lib.Dec.{eqb, ltb, leb, lit<, lit≤}
+use lib.Dec.{eqb, leb}
 use native.Mathlib.Decide.{decLt}
 use native.Mathlib.Nat.{zero-add}
 use native.Mathlib.Omega.{arith}
-use borrow.Author.Tests.{ltb-true, ltb-false, lt-ltb, le-ltb, leb-true, eq-eqb, ne-eqb, eqb-true, eqb-false}
+use borrow.Author.Tests.{le-ltb, eqb-true}
 use Rattle.choice.specs.Pick.{pick}
-use Rattle.choice.proofs.Branch.{by-test, taken, left, pick-both}
+use Rattle.choice.proofs.Branch.{by-test, taken, left}
 use Rattle.choice.proofs.Tests.{and-first, and-second, and-both}
 use Rattle.sets.specs.Set.{has, common}
 use Rattle.sets.proofs.Members.{has-none}
@@ -27,11 +27,10 @@ use Rattle.session.specs.Limits.{used, admitted, limitedInitialization}
 use Rattle.session.proofs.SoundMeans.{sound-means, means-sound}
 use Rattle.session.proofs.StaysSound.{limited-initialization-kept, capability-kept, change-kept, mismatch-kept, hello-kept, closed-kept}
 use Rattle.row.specs.declared.Event.{Event as Numbers}
-use Rattle.row.specs.declared.Limits.{Limits}
 use Rattle.row.specs.Event.{isOn, told, happens, writes}
 use Rattle.row.proofs.Tallied.{outside-row}
-use Rattle.row.specs.Row.{nobody, sessionAt, uses, count, underLimit, allSound, inRow, eventAt, rowAfter, roomAfter}
-use Rattle.promises.specs.Run.{Event, Initialization, Capability, LocalChange, Mismatch, Hello, Closed, step}
+use Rattle.row.specs.Row.{nobody, sessionAt, uses, count, underLimit, allSound, inRow, eventAt, roomAfter}
+use Rattle.promises.specs.Run.{Capability, LocalChange, Mismatch, Hello, Closed, step}
 use Rattle.promises.proofs.Runs.{refused-is-nothing, room-stays}
 use Rattle.promises.specs.Rows.{RowEvent, rowStep, rowThen, roomThen, rowRun, SoundOverRows, OthersStay, RowRefusedIsNothing, gains, losses, gainedBy, lostBy, IsFresh, AllFresh, CountsFollow}
 
@@ -223,11 +222,11 @@ refused-room row e h =
     (λ i. by-test Same
     (λ a. by-test Same
     (λ w.
-        let own = change-in-row row e i a w in
-        let s = sessionAt row (e .at) in
-        let change = LocalChange (e .event .«ta_id») (isOn (e .event)) (e .room) in
-        room-stays s (e .event .«ta_id») (isOn (e .event)) (e .room)
-        (ap (λ (z : After). z .answer .written) (refused-is-nothing s change (λ z. h (ap (λ (y : After). y .answer .refusal) own ∙ z)))))
+    let own = change-in-row row e i a w in
+    let s = sessionAt row (e .at) in
+    let change = LocalChange (e .event .«ta_id») (isOn (e .event)) (e .room) in
+    room-stays s (e .event .«ta_id») (isOn (e .event)) (e .room)
+    (ap (λ (z : After). z .answer .written) (refused-is-nothing s change (λ z. h (ap (λ (y : After). y .answer .refusal) own ∙ z)))))
     (λ _. refl))
     (λ _. refl))
     (λ _. refl)

@@ -5,9 +5,9 @@ use Prim.Native.Nat.{ℕ, zero, suc, _+_, _-_, _<_, _≤_, zero-le}
 use mathlib.Core.Path.{_≡_, refl, sym, ap, _∙_}
 use mathlib.Core.Bool.{Bool, true, false, _&&_, false≢true}
 use mathlib.Core.List.{List, [], _∷_}
-use lib.ListN.{length, getD, set, replicate, length-set, getD-replicate}
+use lib.ListN.{length, getD, set, length-set, getD-replicate}
 use lib.Seq.{getD-set-same, getD-set-other}
-use lib.Dec.{ltb, leb, lit<}
+use lib.Dec.{ltb, leb}
 use native.Mathlib.Decide.{decLt}
 use native.Mathlib.Nat.{le-refl, zero-add}
 use native.Mathlib.Numerals.{add-one}
@@ -30,7 +30,7 @@ use Rattle.row.specs.declared.Limits.{Limits}
 use Rattle.row.specs.declared.Tally.{Tally}
 use Rattle.row.specs.declared.Count.{Count}
 use Rattle.row.specs.Limits.{capped, limitOf}
-use Rattle.row.specs.Event.{happens, writes}
+use Rattle.row.specs.Event.{happens}
 use Rattle.row.specs.Row.{nobody, sessionAt, uses, count, underLimit, allSound, isRow, inRow, eventAt, rowAfter, roomAfter, countOf}
 use Rattle.row.specs.Tally.{nothing, more, counted, tally, tallied, below, under, eventIn, roomIn, countIn}
 

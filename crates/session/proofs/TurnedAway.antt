@@ -1,21 +1,20 @@
 -- A session that an Initialization would have opened, and that goes to the state of a mismatch instead, is as if a mismatch had found it Ready: what opening
 -- set is what a mismatch clears. It permitted nothing before and permits nothing after. Assumes nothing.
 use Prim.Native.Nat.{ℕ, _^_, _<_}
-use mathlib.Core.Path.{_≡_, refl, sym, ap, ap₂, _∙_}
+use mathlib.Core.Path.{_≡_, refl, ap, ap₂, _∙_}
 use mathlib.Core.Bool.{Bool, true, false, _&&_}
 use mathlib.Core.List.{List}
 use lib.Dec.{lit<}
 use Rattle.choice.specs.Pick.{pick}
 use Rattle.choice.proofs.Branch.{by-test, left}
-use Rattle.sets.specs.Set.{has, union, minus, empty, within}
+use Rattle.sets.specs.Set.{has, minus, empty, within}
 use Rattle.sets.proofs.Bounds.{union-lt}
 use Rattle.sets.proofs.Flags.{lowered-next}
 use Rattle.sets.proofs.Subsets.{within-means}
 use Rattle.area.specs.declared.Reading.{Reading}
 use Rattle.session.specs.declared.Session.{Session}
-use Rattle.session.specs.declared.After.{After}
 use Rattle.session.specs.Session as S
-use Rattle.session.specs.Session.{isOpen, active, leavesGone, backToReady, mismatched, permitted}
+use Rattle.session.specs.Session.{isOpen, active, leavesGone, mismatched, permitted}
 use Rattle.session.specs.Creation.{raised}
 use Rattle.session.specs.Events.{takesTac, opening, answered}
 use Rattle.session.proofs.StaysSound.{raised-kept}

@@ -1,21 +1,20 @@
 -- The Initialization of the base is the one under limits with every application under its limit: a sound session enables none but these, so where
 -- something is common, some of it is under its limit. Assumes nothing.
 use Prim.Native.Nat.{ℕ, _<_, _^_}
-use mathlib.Core.Path.{_≡_, refl, sym, ap, _∙_}
+use mathlib.Core.Path.{_≡_, refl, ap, _∙_}
 use mathlib.Core.Bool.{Bool, true, false, _&&_, and-true}
 use mathlib.Core.List.{List}
-use lib.Dec.{eqb, lit<}
+use lib.Dec.{eqb}
 use Rattle.choice.specs.Pick.{pick}
-use Rattle.choice.proofs.Branch.{pick-both, taken, left}
+use Rattle.choice.proofs.Branch.{pick-both}
 use Rattle.sets.specs.Set.{has, common, empty}
 use Rattle.sets.proofs.Bounds.{common-lt}
 use Rattle.sets.proofs.Members.{has-common, has-all, ext}
-use Rattle.area.specs.declared.Reading.{Reading}
 use Rattle.area.specs.Area.{readArea}
 use Rattle.session.specs.declared.Session.{Session}
 use Rattle.session.specs.declared.After.{After}
-use Rattle.session.specs.Session.{isReady, inForce, negotiated, apart, sound, Sound}
-use Rattle.session.specs.Events.{answered, settled, opening, initialization}
+use Rattle.session.specs.Session.{isReady, inForce, negotiated, apart, sound}
+use Rattle.session.specs.Events.{settled, opening, initialization}
 use Rattle.session.specs.Limits.{allApplications, atLimit, admitted, limitedInitialization}
 use Rattle.session.proofs.SoundMeans.{sound-means}
 

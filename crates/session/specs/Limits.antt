@@ -3,7 +3,6 @@
 use Prim.Native.Nat.{ℕ}
 use mathlib.Core.Bool.{Bool, _&&_}
 use mathlib.Core.List.{List}
-use lib.Dec.{eqb}
 use Rattle.choice.specs.Pick.{pick}
 use Rattle.sets.specs.Set.{common, empty}
 use Rattle.area.specs.declared.Reading.{Reading}

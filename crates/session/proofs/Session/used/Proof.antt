@@ -1,5 +1,4 @@
 -- `Session::used` meets its contract: each return by the tests that led there. Assumes nothing.
-use mathlib.Core.Path.{sym, _∙_}
 use Rattle.choice.proofs.Branch.{pick-true, pick-false}
 use Rattle.session.specs.Limits.{used}
 use borrow.Author.Needs.{needs}

@@ -1,0 +1,43 @@
+-- What the walks of functions that are lent a row share: pieces of a body, and the machine value of a tally. Assumes nothing.
+use mathlib.Core.List.{[], _∷_, List}
+use package.mir.Syntax.{Body, skip, seq, assign, block, loop, cond, switch, exit, return, call}
+use package.mir.Val.{Val, vunit}
+use denote.Struct.Laws as LL
+use Rattle.row.specs.declared.Tally.{Tally}
+use Rattle.row.proofs.Tally as U
+use Rattle.row.proofs.Tally.Laws as U′
+
+-- the first arm of a branch
+abbrev pub then-of : Body → Body
+then-of skip = skip
+then-of (seq a b) = skip
+then-of (assign p r) = skip
+then-of (block b) = skip
+then-of (loop b) = skip
+then-of (cond c a b) = a
+then-of (switch c a) = skip
+then-of (exit n) = skip
+then-of return = skip
+then-of (call f a p) = skip
+
+-- what follows the first statement of a body
+abbrev pub after : Body → Body
+after skip = skip
+after (seq a b) = b
+after (assign p r) = skip
+after (block b) = skip
+after (loop b) = skip
+after (cond c a b) = skip
+after (switch c a) = skip
+after (exit n) = skip
+after return = skip
+after (call f a p) = skip
+
+-- the value of what is held in one value
+abbrev pub hd : List Val → Val
+hd [] = vunit
+hd (v ∷ vs) = v
+
+-- the machine value of a tally
+abbrev pub low-tally : Tally → Val
+low-tally t = hd (LL.vals U.the-type U′.the-laws t)
