@@ -49,6 +49,58 @@ pub struct Retry {
     interval: u16,
 }
 
+/// One session of a row; padding is never read.
+#[repr(C)]
+pub struct Session {
+    state: u8,
+    flags: u8,
+    disabled: u8,
+    enabled: u16,
+    listed: u16,
+    protects: u16,
+    hello: u32,
+    next: u32,
+}
+
+#[repr(C)]
+pub struct Event {
+    which: u32,
+    ta_id: u32,
+    on: u32,
+    number: u32,
+}
+
+#[repr(C)]
+pub struct Limits {
+    of: [u8; 13],
+}
+
+impl Session {
+    fn fields(&self) -> second::Fields {
+        second::Fields {
+            state: self.state,
+            flags: self.flags,
+            disabled: self.disabled,
+            enabled: self.enabled,
+            listed: self.listed,
+            protects: self.protects,
+            hello: self.hello,
+            next: self.next,
+        }
+    }
+
+    fn take(&mut self, fields: second::Fields) {
+        self.state = fields.state;
+        self.flags = fields.flags;
+        self.disabled = fields.disabled;
+        self.enabled = fields.enabled;
+        self.listed = fields.listed;
+        self.protects = fields.protects;
+        self.hello = fields.hello;
+        self.next = fields.next;
+    }
+}
+
 impl From<second::Part> for Part {
     fn from(second::Part { start, length }: second::Part) -> Part {
         Part { start, length }
@@ -79,7 +131,7 @@ unsafe fn lent<'a>(start: *const u8, length: usize) -> &'a [u8] {
 
 /// # Safety
 /// As [`lent`], and nothing else points there.
-unsafe fn lent_mut<'a>(start: *mut u8, length: usize) -> &'a mut [u8] {
+unsafe fn lent_mut<'a, T>(start: *mut T, length: usize) -> &'a mut [T] {
     if length == 0 {
         &mut []
     } else {
@@ -204,4 +256,39 @@ pub unsafe extern "C" fn second_retry_interval(record: *const u8, record_len: us
 #[no_mangle]
 pub unsafe extern "C" fn second_sound(record: *const u8, record_len: usize) -> bool {
     second::sound(lent(record, record_len))
+}
+
+/// The row is copied in, and one session out: the second program's sessions are
+/// laid out as Rust likes.
+#[no_mangle]
+pub unsafe extern "C" fn second_row_event(
+    row: *mut Session,
+    row_len: usize,
+    at: usize,
+    event: Event,
+    limits: Limits,
+    area: *const u8,
+    area_len: usize,
+    room: *mut u8,
+    room_len: usize,
+) -> Answer {
+    const MOST: usize = 65;
+    let row = lent_mut(row, row_len.min(MOST));
+    let mut fields = [second::Fields::default(); MOST];
+    for (field, session) in fields.iter_mut().zip(row.iter()) {
+        *field = session.fields();
+    }
+    let event = second::Event {
+        which: event.which,
+        ta_id: event.ta_id,
+        on: event.on,
+        number: event.number,
+    };
+    let limits = second::Limits { of: limits.of };
+    let (area, room) = (lent(area, area_len), lent_mut(room, room_len));
+    let answer = second::row_event(&mut fields[..row.len()], at, event, limits, area, room);
+    if let Some(session) = row.get_mut(at) {
+        session.take(fields[at]);
+    }
+    answer.into()
 }
