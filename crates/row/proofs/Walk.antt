@@ -1,4 +1,5 @@
--- What the walks of functions that are lent a row share: pieces of a body, and the machine value of a tally. Assumes nothing.
+-- What the walks of functions that are lent a row share: pieces of a body, the places of locals, and the machine value of a tally. Assumes nothing.
+use Prim.Native.Nat.{ℕ, _+_, _-_, _*_}
 use mathlib.Core.List.{[], _∷_, List}
 use package.mir.Syntax.{Body, skip, seq, assign, block, loop, cond, switch, exit, return, call}
 use package.mir.Val.{Val, vunit}
@@ -32,6 +33,10 @@ after (switch c a) = skip
 after (exit n) = skip
 after return = skip
 after (call f a p) = skip
+
+-- where local k stands, behind a head of h things: locals are kept from the last to the first, two things for each
+abbrev pub spot-of : ℕ → ℕ → ℕ → ℕ
+spot-of last h k = h + 2 * (last - k)
 
 -- the value of what is held in one value
 abbrev pub hd : List Val → Val

@@ -55,7 +55,7 @@ use Rattle.row.specs.Tally as S
 use Rattle.row.specs.Tally.{tallied}
 use Rattle.row.proofs.Tally as U
 use Rattle.row.proofs.Tally.Laws as U′
-use Rattle.row.proofs.Walk.{after, hd, low-tally}
+use Rattle.row.proofs.Walk.{spot-of, after, hd, low-tally}
 use Rattle.row.proofs.Tally.nothing as nothing-yet
 use Rattle.row.proofs.Tally.nothing.Symbol as nothing-def
 use Rattle.row.proofs.Tally.nothing.Symbol.{name as #nothing}
@@ -72,6 +72,10 @@ use Rattle.row.proofs.tally_of.Code.Mir as mir
 
 abbrev stayed : Stays (f.ended .signature .params) (f.ended .kept)
 stayed = (stay-none-slice (0 ∷ []) tt (plain (λ _. T.the-row)) yes, tt)
+
+-- where local k stands, behind a head of h things
+abbrev spot : ℕ → ℕ → ℕ
+spot = spot-of 7
 
 -- one more session
 step : (ys : List Session) (i : ℕ) (t : Tally) → i < length ys → tallied t (dropL i ys) ≡ tallied S.nothing ys → (r : Tally) → r ≡ S.tally t (sessionAt ys i) → tallied r (dropL (i + 1) ys) ≡ tallied S.nothing ys
@@ -165,7 +169,7 @@ module _ {M : Type 1} (𝓤 : URA M) (H : Heap 𝓤) (A : Atoms 𝓤) (W : Given
     abbrev En : Env 𝓤 H
     En = (U′.mir, l₀) ∷ (slice, l₁) ∷ (U′.mir, l₂) ∷ (tyInt w64, l₃) ∷ (tyInt w64, l₄) ∷ (tyBool, l₅) ∷ (tyPtr, l₆) ∷ (T′.mir, l₇) ∷ []
 
-    -- [the slice's borrow; the token; its name; its fact; _7 4; _6 6; _5 8; _4 10; _3 12; _2 14; _1 16; _0 18]
+    -- [the slice's borrow; the token; its name; its fact; the locals from the last to the first]
     abbrev At : Upto → List (Item 𝓤)
     At u = ‵ Shared ∷ ‵ (flft κ q) ∷ ‵ Named ∷ ‵ Fact ∷ ‵ (froom T′.mir l₇ 0) ∷ ‵ (fdies T′.mir l₇) ∷ ‵ (froom tyPtr l₆ 0) ∷ ‵ (fdies tyPtr l₆) ∷ ‵ (froom tyBool l₅ 0) ∷ ‵ (fdies tyBool l₅)
         ∷ ‵ (froom (tyInt w64) l₄ 0) ∷ ‵ (fdies (tyInt w64) l₄) ∷ ‵ (fat fullShare (tyInt w64) l₃ 0 (vint w64 (u .0))) ∷ ‵ (fdies (tyInt w64) l₃) ∷ ‵ (fat fullShare U′.mir l₂ 0 (low-tally (u .1 .0))) ∷ ‵ (fdies U′.mir l₂)
@@ -177,34 +181,34 @@ module _ {M : Type 1} (𝓤 : URA M) (H : Heap 𝓤) (A : Atoms 𝓤) (W : Given
     turns : (u : Upto) → Sq W (At u) (runs C Λ En mir.turn-1 (anyQ (Turned u)))
     unfolding afterTurn
     turns u =
-        assigns ! (of-opd ! (load ! (from ! (fld ! refl (stop !))) (look-in ! 16 (sub ! 1 refl (whole !))))) (from ! (stop !)) (init ! 10 refl (tt, record { fits = gn .0 })) $
-        assigns ! (bin ! (load ! (from ! (stop !)) (look ! 12 refl)) (load ! (from ! (stop !)) (look ! 10 refl)) tt) (from ! (stop !)) (init ! 8 refl (tt, tt)) $
-        first ! $ branches ! (load ! (from ! (stop !)) (look ! 8 refl))
+        assigns ! (of-opd ! (load ! (from ! (fld ! refl (stop !))) (look-in ! (spot 4 1) (sub ! 1 refl (whole !))))) (from ! (stop !)) (init ! (spot 4 4) refl (tt, record { fits = gn .0 })) $
+        assigns ! (bin ! (load ! (from ! (stop !)) (look ! (spot 4 3) refl)) (load ! (from ! (stop !)) (look ! (spot 4 4) refl)) tt) (from ! (stop !)) (init ! (spot 4 5) refl (tt, tt)) $
+        first ! $ branches ! (load ! (from ! (stop !)) (look ! (spot 4 5) refl))
         (λ less. skips ! $ exec ! C Λ En (after (after (after mir.turn-1))) (anyQ (Turned u)) $
-        assigns ! (bin ! (load ! (from ! (stop !)) (look ! 12 refl)) (lit ! tt) (scaled less)) (from ! (stop !)) (store ! 10 refl (tt, scaled less)) $
-        assigns ! (bin ! (load ! (from ! (fld ! refl (stop !))) (look-in ! 16 (sub ! 0 refl (whole !)))) (load ! (from ! (stop !)) (look ! 10 refl)) tt) (from ! (stop !)) (init ! 6 refl (tt, tt)) $
-        rewrite ! 6 (λ (p : ℕ). ‵ (fat fullShare tyPtr l₆ 0 (vptr b p))) (sym (place-is 20 o i)) refl $
+        assigns ! (bin ! (load ! (from ! (stop !)) (look ! (spot 4 3) refl)) (lit ! tt) (scaled less)) (from ! (stop !)) (store ! (spot 4 4) refl (tt, scaled less)) $
+        assigns ! (bin ! (load ! (from ! (fld ! refl (stop !))) (look-in ! (spot 4 1) (sub ! 0 refl (whole !)))) (load ! (from ! (stop !)) (look ! (spot 4 4) refl)) tt) (from ! (stop !)) (init ! (spot 4 6) refl (tt, tt)) $
+        rewrite ! (spot 4 6) (λ (p : ℕ). ‵ (fat fullShare tyPtr l₆ 0 (vptr b p))) (sym (place-is 20 o i)) refl $
         -- element i is copied out
         looks-slice ! tt T.the-row (Is T.the-row) (shows 𝓤 H A T.the-row) (LL.vals T.the-type T′.the-laws) (LL.tells T.the-type T′.the-laws) (LL.copy T.the-type T′.the-copy 𝓤 H A W) ys b o (λ q′.
         elem-out ! T.the-row (Is T.the-row) (shows 𝓤 H A T.the-row) (LL.vals T.the-type T′.the-laws) (LL.tells T.the-type T′.the-laws) q′ ys i nobody b o (within less) (λ is.
-        assigns ! (of-opd ! (load ! (from ! (hop ! (look ! 9 refl) (stop !))) (look-raw ! 0 refl))) (from ! (stop !)) (init ! 7 refl (LL.lawful T.the-type T′.the-laws 𝓤 H A W .typed (sessionAt ys i) _ is .0)) $
+        assigns ! (of-opd ! (load ! (from ! (hop ! (look ! (spot 7 6) refl) (stop !))) (look-raw ! 0 refl))) (from ! (stop !)) (init ! (spot 7 7) refl (LL.lawful T.the-type T′.the-laws 𝓤 H A W .typed (sessionAt ys i) _ is .0)) $
         elem-back ! T.the-row q′ ys i nobody (mach i ∷ []) b o (within less) $ shuts-slice ! tt T.the-row q′ ys b o $ move ! (1 ∷ 0 ∷ []) $
         -- and counted
         owned ! T.the-row (Is T.the-row) (LL.makes T.the-type T′.the-plain 𝓤 H A) (sessionAt ys i) _ is $ owned ! U.the-row (Is U.the-row) (LL.makes U.the-type U′.the-plain 𝓤 H A) t _ t-is $
         use2 W (raw (Turn 𝓤 H A mem run .pre (to-turn t i))) (goes-turn t i) $
-        calls-at ! (fmOf 𝓤 H (W .laws) 𝓣) (Turn 𝓤 H A mem run) known (to-turn t i) (and-then ! (load ! (from ! (stop !)) (look ! 15 refl)) (and-then ! (load ! (from ! (stop !)) (look ! 5 refl)) (no-more !))) (λ v.
+        calls-at ! (fmOf 𝓤 H (W .laws) 𝓣) (Turn 𝓤 H A mem run) known (to-turn t i) (and-then ! (load ! (from ! (stop !)) (look ! (spot 5 2) refl)) (and-then ! (load ! (from ! (stop !)) (look ! (spot 5 7) refl)) (no-more !))) (λ v.
         use1 W (later (some (λ (r : Tally). (‵ ftrue ⊛ ‵ (U.the-row .own r (v ∷ []))) ⊛ raw (ensured 𝓤 H A tally.ended (tally.clauses 𝓤 H A mem run) tt (t, (sessionAt ys i, tt)) tt r)))) (id⊢ 𝓤 _) $ await ! tt $ pick ! (λ r.
         split ! $ move ! (1 ∷ []) $ use1 W (raw (fact 𝓤 (r ≡ S.tally t (sessionAt ys i)))) (turn-says 𝓤 H A mem run t (sessionAt ys i) r) $ heard ! (r ≡ S.tally t (sessionAt ys i)) (λ e. split ! $ drop ! $
         peeks ! U.the-row (Is U.the-row) (shows 𝓤 H A U.the-row) r (v ∷ []) (λ got. drop ! $
-        land ! (from ! (stop !)) (store ! 14 refl (LL.lawful U.the-type U′.the-laws 𝓤 H A W .typed r _ got .0)) $
-        rewrite ! 14 (λ (us : List Val). ‵ (fat fullShare U′.mir l₂ 0 (hd us))) (LL.tells U.the-type U′.the-laws r (v ∷ []) got) refl $
-        assigns-last ! (bin ! (load ! (from ! (stop !)) (look ! 12 refl)) (lit ! tt) (record { fits = next-fits less })) (from ! (stop !)) (store ! 12 refl (tt, record { fits = next-fits less })) $
-        forget ! 4 refl $ forget ! 6 refl $ forget ! 8 refl $ forget ! 10 refl $
+        land ! (from ! (stop !)) (store ! (spot 4 2) refl (LL.lawful U.the-type U′.the-laws 𝓤 H A W .typed r _ got .0)) $
+        rewrite ! (spot 4 2) (λ (us : List Val). ‵ (fat fullShare U′.mir l₂ 0 (hd us))) (LL.tells U.the-type U′.the-laws r (v ∷ []) got) refl $
+        assigns-last ! (bin ! (load ! (from ! (stop !)) (look ! (spot 4 3) refl)) (lit ! tt) (record { fits = next-fits less })) (from ! (stop !)) (store ! (spot 4 3) refl (tt, record { fits = next-fits less })) $
+        forget ! (spot 4 7) refl $ forget ! (spot 4 6) refl $ forget ! (spot 4 5) refl $ forget ! (spot 4 4) refl $
         again ! Nearer At u (i + 1, (r, (add-one-le (within less), (subst (Is U.the-row r) (LL.tells U.the-type U′.the-laws r (v ∷ []) got) got, step ys i t (within less) (u .1 .1 .1 .1) r e)))) (add-one-dec (length ys) i (within less)))))))))
         (λ over. jumps ! $ exec ! C Λ En mir.t-4 (atRet En Post) $
-        assigns ! (of-opd ! (load ! (from ! (stop !)) (look ! 14 refl))) (from ! (stop !)) (init ! 18 refl (LL.lawful U.the-type U′.the-laws 𝓤 H A W .typed t _ t-is .0)) $
-        returns ! (look ! 18 refl) $ forget ! 8 refl $ forget ! 10 refl $ forget ! 12 refl $ forget ! 14 refl $ forget ! 16 refl $ forget ! 18 refl $
-        move ! (18 ∷ 19 ∷ []) $ free1 ! $ move ! (16 ∷ 17 ∷ []) $ free1 ! $ move ! (14 ∷ 15 ∷ []) $ free1 ! $ move ! (12 ∷ 13 ∷ []) $ free1 ! $ move ! (10 ∷ 11 ∷ []) $ free1 ! $ move ! (8 ∷ 9 ∷ []) $ free1 ! $ move ! (6 ∷ 7 ∷ []) $ free1 ! $ move ! (4 ∷ 5 ∷ []) $ free1 ! $ free0 ! $
+        assigns ! (of-opd ! (load ! (from ! (stop !)) (look ! (spot 4 2) refl))) (from ! (stop !)) (init ! (spot 4 0) refl (LL.lawful U.the-type U′.the-laws 𝓤 H A W .typed t _ t-is .0)) $
+        returns ! (look ! (spot 4 0) refl) $ forget ! (spot 4 5) refl $ forget ! (spot 4 4) refl $ forget ! (spot 4 3) refl $ forget ! (spot 4 2) refl $ forget ! (spot 4 1) refl $ forget ! (spot 4 0) refl $
+        move ! ((spot 4 0) ∷ (spot 4 0 + 1) ∷ []) $ free1 ! $ move ! ((spot 4 1) ∷ (spot 4 1 + 1) ∷ []) $ free1 ! $ move ! ((spot 4 2) ∷ (spot 4 2 + 1) ∷ []) $ free1 ! $ move ! ((spot 4 3) ∷ (spot 4 3 + 1) ∷ []) $ free1 ! $ move ! ((spot 4 4) ∷ (spot 4 4 + 1) ∷ []) $ free1 ! $ move ! ((spot 4 5) ∷ (spot 4 5 + 1) ∷ []) $ free1 ! $ move ! ((spot 4 6) ∷ (spot 4 6 + 1) ∷ []) $ free1 ! $ move ! ((spot 4 7) ∷ (spot 4 7 + 1) ∷ []) $ free1 ! $ free0 ! $
         by ! (exits t t-is (last ys i t (le-antisymm (u .1 .1 .0) (nltb→le i (length ys) over)) (u .1 .1 .1 .1))))
       where
         i : ℕ
@@ -238,16 +242,16 @@ module _ {M : Type 1} (𝓤 : URA M) (H : Heap 𝓤) (A : Atoms 𝓤) (W : Given
         use1 W (later (some (λ (r : Tally). (‵ ftrue ⊛ ‵ (U.the-row .own r (v ∷ []))) ⊛ raw (ensured 𝓤 H A nothing-yet.ended (nothing-yet.clauses 𝓤 H A mem run) tt tt tt r)))) (id⊢ 𝓤 _) $ await ! tt $ pick ! (λ r.
         split ! $ move ! (1 ∷ []) $ use1 W (raw (fact 𝓤 (r ≡ S.nothing))) (start-says 𝓤 H A mem run r) $ heard ! (r ≡ S.nothing) (λ e. split ! $ drop ! $
         peeks ! U.the-row (Is U.the-row) (shows 𝓤 H A U.the-row) r (v ∷ []) (λ got. drop ! $
-        land ! (from ! (stop !)) (init ! 14 refl (LL.lawful U.the-type U′.the-laws 𝓤 H A W .typed r _ got .0)) $
-        rewrite ! 14 (λ (us : List Val). ‵ (fat fullShare U′.mir l₂ 0 (hd us))) (LL.tells U.the-type U′.the-laws r (v ∷ []) got) refl $
-        assigns ! (of-opd ! (lit ! tt)) (from ! (stop !)) (init ! 12 refl (tt, record { fits = lit< tt })) $
+        land ! (from ! (stop !)) (init ! (spot 4 2) refl (LL.lawful U.the-type U′.the-laws 𝓤 H A W .typed r _ got .0)) $
+        rewrite ! (spot 4 2) (λ (us : List Val). ‵ (fat fullShare U′.mir l₂ 0 (hd us))) (LL.tells U.the-type U′.the-laws r (v ∷ []) got) refl $
+        assigns ! (of-opd ! (lit ! tt)) (from ! (stop !)) (init ! (spot 4 3) refl (tt, record { fits = lit< tt })) $
         first ! $ blocks ! $ loops ! 𝓣 Nearer Nearer-wf At turns (0, (r, (zero-le, (subst (Is U.the-row r) (LL.tells U.the-type U′.the-laws r (v ∷ []) got) got, ap (λ (t : Tally). tallied t ys) e))))))))
 
   walk : (𝓣 : Tables 𝓤 H) → Triple 𝓤 (𝓣 .C #nothing) (Start 𝓤 H A mem run) → Triple 𝓤 (𝓣 .C #tally) (Turn 𝓤 H A mem run) → ent 𝓤 (onEntry 𝓤 H A f.signature (κ, tt) (q, tt) (x, tt) at) (WpFn 𝓤 H (𝓣 .C) (𝓣 .Λ) code.function (sliceVal (b, o) (length ys) ∷ []) Post)
   walk 𝓣 known-start known =
       qed W ((‵ (flft κ q) ⊛ ‵ ftrue) ∷ ‵ (owns (ShrSlice (named 0) κ T.the-row ∷ []) (x, tt) at) ∷ []) ∵ enter ! (𝓣 .C) (𝓣 .Λ) code.function (sliceVal (b, o) (length ys) ∷ []) _ $
       alloc1 ! (λ l₀. alloc1 ! (λ l₁. alloc1 ! (λ l₂. alloc1 ! (λ l₃. alloc1 ! (λ l₄. alloc1 ! (λ l₅. alloc1 ! (λ l₆. alloc1 ! (λ l₇. alloc0 ! $ params1 ! $
-      pass1 ! (init ! 12 refl (tt, (tt, (record { fits = gn .0 }, tt)))) $ pass0 ! $
+      pass1 ! (init ! (spot 0 1) refl (tt, (tt, (record { fits = gn .0 }, tt)))) $ pass0 ! $
       move ! (17 ∷ []) $ fsplit ! $ fsplit ! $ move ! (1 ∷ []) $ fsplit ! $ move ! (20 ∷ []) $ split ! $
       keep ! (3 ∷ 0 ∷ 2 ∷ 4 ∷ 6 ∷ 7 ∷ 8 ∷ 9 ∷ 10 ∷ 11 ∷ 12 ∷ 13 ∷ 14 ∷ 15 ∷ 16 ∷ 17 ∷ 18 ∷ 19 ∷ 20 ∷ 21 ∷ []) $
       starts 𝓣 known-start known l₀ l₁ l₂ l₃ l₄ l₅ l₆ l₇))))))))

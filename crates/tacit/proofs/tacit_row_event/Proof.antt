@@ -3,7 +3,7 @@
 -- after it is stored at the place; else the refusal is made, and row and room stay. Cut at the test, with the context of each part written out.
 -- Assumes nothing.
 use mathlib.Core.Path.{_≡_, refl, sym, ap, subst, _∙_}
-use Prim.Native.Nat.{ℕ, _<_, _*_, _^_}
+use Prim.Native.Nat.{ℕ, _+_, _-_, _<_, _*_, _^_}
 use mathlib.Core.List.{[], _∷_, List}
 use mathlib.Core.Bool.{not}
 use lib.ListN.{length, set, length-set}
@@ -65,7 +65,7 @@ use Rattle.row.specs.Row.{nobody, sessionAt, eventAt, rowAfter, roomAfter}
 use Rattle.row.specs.Tally as S
 use Rattle.row.specs.Tally.{tallied, eventIn, roomIn}
 use Rattle.row.proofs.Tallied.{event-in-row, room-in-row, outside-answer, outside-row, outside-room}
-use Rattle.row.proofs.Walk.{then-of, hd, low-tally}
+use Rattle.row.proofs.Walk.{spot-of, then-of, hd, low-tally}
 use Rattle.row.proofs.Event as E
 use Rattle.row.proofs.Event.Laws as E′
 use Rattle.row.proofs.Limits as L
@@ -96,6 +96,10 @@ stayed = (stay-slice (0 ∷ []) tt (plain (λ _. T.the-row)), (stay-none (λ _. 
 
 abbrev Arg : Type 0
 Arg = RefT (List Session) × (ℕ × (Event × (Limits × (RefT (List ℕ) × (RefT (List ℕ) × Unit {0})))))
+
+-- where local k stands, behind a head of h things
+abbrev spot : ℕ → ℕ → ℕ
+spot = spot-of 19
 
 -- the machine values of an event and of limits
 abbrev low-event : Event → Val
@@ -285,20 +289,20 @@ module _ {M : Type 1} (𝓤 : URA M) (H : Heap 𝓤) (A : Atoms 𝓤) (W : Given
       inside : (t : Tally) → Is U.the-row t (low-tally t ∷ []) → t ≡ tallied S.nothing ys → T (ltb i (length ys)) → Sq W (Tested t) (runs C Λ En (then-of mir.s-6) Then)
       inside t t-is counted less =
           let within = ltb→lt i (length ys) less in let scaled : Fits w64 (i * 20) = scaled-fits i (length ys) 20 within (gn .1) in
-          assigns ! (bin ! (load ! (from ! (stop !)) (look ! 43 refl)) (lit ! tt) scaled) (from ! (stop !)) (init ! 21 refl (tt, scaled)) $
-          assigns ! (bin ! (load ! (from ! (fld ! refl (stop !))) (look-in ! 45 (sub ! 0 refl (whole !)))) (load ! (from ! (stop !)) (look ! 21 refl)) tt) (from ! (stop !)) (init ! 19 refl (tt, tt)) $
-          rewrite ! 19 (λ (p : ℕ). ‵ (fat fullShare tyPtr l₁₄ 0 (vptr b p))) (sym (place-is 20 o i)) refl $
+          assigns ! (bin ! (load ! (from ! (stop !)) (look ! (spot 9 2) refl)) (lit ! tt) scaled) (from ! (stop !)) (init ! (spot 9 13) refl (tt, scaled)) $
+          assigns ! (bin ! (load ! (from ! (fld ! refl (stop !))) (look-in ! (spot 9 1) (sub ! 0 refl (whole !)))) (load ! (from ! (stop !)) (look ! (spot 9 13) refl)) tt) (from ! (stop !)) (init ! (spot 9 14) refl (tt, tt)) $
+          rewrite ! (spot 9 14) (λ (p : ℕ). ‵ (fat fullShare tyPtr l₁₄ 0 (vptr b p))) (sym (place-is 20 o i)) refl $
           opens-slice ! tt T.the-row ys b o $ elem-out ! T.the-row (Is T.the-row) (shows 𝓤 H A T.the-row) (LL.vals T.the-type T′.the-laws) (LL.tells T.the-type T′.the-laws) fullShare ys i nobody b o within (λ was.
           -- [row[i]; what it owns; the others; the open borrow; obs; auth; two tokens; true; row's fact; area; room; the locals]
-          assigns ! (of-opd ! (load ! (from ! (hop ! (look ! 22 refl) (stop !))) (look-raw ! 0 refl))) (from ! (stop !)) (init ! 20 refl (LL.lawful T.the-type T′.the-laws 𝓤 H A W .typed e _ was .0)) $
-          assigns ! (of-opd ! (load ! (from ! (fld ! refl (stop !))) (look-in ! 48 (sub ! 1 refl (whole !))))) (from ! (stop !)) (init ! 18 refl (tt, record { fits = gn .0 })) $
-          assigns ! (addr ! (from ! (fld ! refl (hop ! (look-in ! 38 (sub ! 0 refl (whole !))) (stop !))))) (from ! (stop !)) (init ! 16 refl (tt, tt)) $
-          assigns ! (agg ! (and-then ! (load ! (from ! (stop !)) (look ! 16 refl)) (and-then ! (load ! (from ! (fld ! refl (stop !))) (look-in ! 38 (sub ! 1 refl (whole !)))) (no-more !)))) (from ! (stop !)) (init ! 14 refl (tt, (tt, (record { fits = gr .0 }, tt)))) $
+          assigns ! (of-opd ! (load ! (from ! (hop ! (look ! (spot 12 14) refl) (stop !))) (look-raw ! 0 refl))) (from ! (stop !)) (init ! (spot 12 15) refl (LL.lawful T.the-type T′.the-laws 𝓤 H A W .typed e _ was .0)) $
+          assigns ! (of-opd ! (load ! (from ! (fld ! refl (stop !))) (look-in ! (spot 12 1) (sub ! 1 refl (whole !))))) (from ! (stop !)) (init ! (spot 12 16) refl (tt, record { fits = gn .0 })) $
+          assigns ! (addr ! (from ! (fld ! refl (hop ! (look-in ! (spot 12 6) (sub ! 0 refl (whole !))) (stop !))))) (from ! (stop !)) (init ! (spot 12 17) refl (tt, tt)) $
+          assigns ! (agg ! (and-then ! (load ! (from ! (stop !)) (look ! (spot 12 17) refl)) (and-then ! (load ! (from ! (fld ! refl (stop !))) (look-in ! (spot 12 6) (sub ! 1 refl (whole !)))) (no-more !)))) (from ! (stop !)) (init ! (spot 12 18) refl (tt, (tt, (record { fits = gr .0 }, tt)))) $
           move ! (10 ∷ []) $ use1 W (‵ Area ⊛ ‵ Area) (shr-slice-copy 𝓤 H A W (named 1) κ₁ u8 .twice area-ref (area-val ∷ [])) $ split ! $
           move ! (0 ∷ 12 ∷ []) $ join ! $ move ! (9 ∷ 0 ∷ []) $ join ! $ move ! (8 ∷ 0 ∷ []) $ join ! $ move ! (3 ∷ 0 ∷ []) $ join ! $
           -- [what the event is handed; area; row[i]; the others; the open borrow; obs; auth; true; row's fact; the locals]
           use1 W (raw (Happening 𝓤 H A mem run .pre (to-event t))) (goes-event t t-is) $
-          calls-at ! fm (Happening 𝓤 H A mem run) known-event (to-event t) (and-then ! (load ! (from ! (stop !)) (look ! 17 refl)) (and-then ! (load ! (from ! (stop !)) (look ! 15 refl)) (and-then ! (load ! (from ! (stop !)) (look ! 33 refl)) (and-then ! (load ! (from ! (stop !)) (look ! 41 refl)) (and-then ! (load ! (from ! (stop !)) (look ! 39 refl)) (and-then ! (load ! (from ! (stop !)) (look ! 37 refl)) (and-then ! (load ! (from ! (stop !)) (look ! 11 refl)) (no-more !)))))))) (λ v.
+          calls-at ! fm (Happening 𝓤 H A mem run) known-event (to-event t) (and-then ! (load ! (from ! (stop !)) (look ! (spot 9 15) refl)) (and-then ! (load ! (from ! (stop !)) (look ! (spot 9 16) refl)) (and-then ! (load ! (from ! (stop !)) (look ! (spot 9 7) refl)) (and-then ! (load ! (from ! (stop !)) (look ! (spot 9 3) refl)) (and-then ! (load ! (from ! (stop !)) (look ! (spot 9 4) refl)) (and-then ! (load ! (from ! (stop !)) (look ! (spot 9 5) refl)) (and-then ! (load ! (from ! (stop !)) (look ! (spot 9 18) refl)) (no-more !)))))))) (λ v.
           use1 W (later (some (λ (r : After). (Toks ⊛ ‵ (Z.the-row .own r (v ∷ []))) ⊛ raw (ensured 𝓤 H A event.ended (event.clauses 𝓤 H A mem run) (κ₁, (κ₂, tt)) (event-arg t) tt r)))) (id⊢ 𝓤 _) $ await ! tt $ pick ! (λ r.
           split ! $ move ! (1 ∷ []) $ use1 W (some (λ (zs : Lasts). ‵ (lasts event.ended (κ₁, (κ₂, tt)) (event-arg t) zs) ⊛ raw (fact 𝓤 (Said t r (zs .1 .1 .1 .1 .1 .1 .0))))) (id⊢ 𝓤 _) $ pick ! (λ zs.
           let ws = zs .1 .1 .1 .1 .1 .1 .0 in
@@ -306,19 +310,19 @@ module _ {M : Type 1} (𝓤 : URA M) (H : Heap 𝓤) (A : Atoms 𝓤) (W : Given
           -- [the room's last list; true; the tokens and the result; area; row[i]; the others; the open borrow; obs; auth; true; row's fact; the locals]
           move ! (2 ∷ []) $ split ! $ move ! (1 ∷ []) $ peeks ! Z.the-row (Is Z.the-row) (shows 𝓤 H A Z.the-row) r (v ∷ []) (λ is. drop ! $
           let parts = LL.owed Z.the-type Z′.the-laws r (v ∷ []) is in
-          move ! (4 ∷ []) $ land ! (from ! (stop !)) (init ! 33 refl (LL.lawful Z.the-type Z′.the-laws 𝓤 H A W .typed r _ is .0)) $
+          move ! (4 ∷ []) $ land ! (from ! (stop !)) (init ! (spot 11 8) refl (LL.lawful Z.the-type Z′.the-laws 𝓤 H A W .typed r _ is .0)) $
           -- [row[i]; the tokens; the room's last list; true; area; the others; the open borrow; obs; auth; true; row's fact; the locals]
-          rewrite ! 33 (λ (us : List Val). ‵ (fat fullShare Z′.mir l₈ 0 (hd us))) (LL.tells Z.the-type Z′.the-laws r (v ∷ []) is) refl $
-          assigns ! (bin ! (load ! (from ! (stop !)) (look ! 45 refl)) (lit ! tt) scaled) (from ! (stop !)) (store ! 23 refl (tt, scaled)) $
-          assigns ! (bin ! (load ! (from ! (fld ! refl (stop !))) (look-in ! 47 (sub ! 0 refl (whole !)))) (load ! (from ! (stop !)) (look ! 23 refl)) tt) (from ! (stop !)) (init ! 11 refl (tt, tt)) $
-          rewrite ! 11 (λ (p : ℕ). ‵ (fat fullShare tyPtr l₁₉ 0 (vptr b p))) (sym (place-is 20 o i)) refl $
-          assigns ! (of-opd ! (load ! (from ! (fld ! refl (stop !))) (look-in ! 33 (sub ! 0 refl (whole !))))) (from ! (hop ! (look ! 11 refl) (stop !))) (store-raw ! 0 refl (LL.lawful T.the-type T′.the-laws 𝓤 H A W .typed (r .session) _ (parts .0) .0)) $
+          rewrite ! (spot 11 8) (λ (us : List Val). ‵ (fat fullShare Z′.mir l₈ 0 (hd us))) (LL.tells Z.the-type Z′.the-laws r (v ∷ []) is) refl $
+          assigns ! (bin ! (load ! (from ! (stop !)) (look ! (spot 11 2) refl)) (lit ! tt) scaled) (from ! (stop !)) (store ! (spot 11 13) refl (tt, scaled)) $
+          assigns ! (bin ! (load ! (from ! (fld ! refl (stop !))) (look-in ! (spot 11 1) (sub ! 0 refl (whole !)))) (load ! (from ! (stop !)) (look ! (spot 11 13) refl)) tt) (from ! (stop !)) (init ! (spot 11 19) refl (tt, tt)) $
+          rewrite ! (spot 11 19) (λ (p : ℕ). ‵ (fat fullShare tyPtr l₁₉ 0 (vptr b p))) (sym (place-is 20 o i)) refl $
+          assigns ! (of-opd ! (load ! (from ! (fld ! refl (stop !))) (look-in ! (spot 11 8) (sub ! 0 refl (whole !))))) (from ! (hop ! (look ! (spot 11 19) refl) (stop !))) (store-raw ! 0 refl (LL.lawful T.the-type T′.the-laws 𝓤 H A W .typed (r .session) _ (parts .0) .0)) $
           owned ! T.the-row (Is T.the-row) (LL.makes T.the-type T′.the-plain 𝓤 H A) (r .session) _ (parts .0) $ move ! (1 ∷ 0 ∷ 6 ∷ []) $ elem-put ! T.the-row fullShare ys i (r .session) (T′.lowered (r .session) ∷ []) b o within $
           move ! (0 ∷ 5 ∷ 6 ∷ 7 ∷ []) $ closes-slice ! tt T.the-row ys (set ys i (r .session)) (length-set ys i (r .session)) b o $
           -- [obs; the borrow; its token; the others; the room's last list; true; area; true; row's fact; the locals]
-          assigns ! (of-opd ! (load ! (from ! (fld ! refl (stop !))) (look-in ! 31 (sub ! 1 refl (whole !))))) (from ! (stop !)) (init ! 47 refl (LL.lawful N.the-type N′.the-laws 𝓤 H A W .typed (r .answer) _ (parts .1 .0) .0)) $
-          returns-within ! Post refl (look ! 47 refl) $ forget ! 47 refl $ forget ! 45 refl $ forget ! 43 refl $ forget ! 41 refl $ forget ! 39 refl $ forget ! 37 refl $ forget ! 35 refl $ forget ! 33 refl $ forget ! 31 refl $ forget ! 29 refl $ forget ! 27 refl $ forget ! 25 refl $ forget ! 23 refl $ forget ! 21 refl $ forget ! 19 refl $ forget ! 17 refl $ forget ! 15 refl $ forget ! 13 refl $ forget ! 11 refl $ forget ! 9 refl $
-          move ! (47 ∷ 48 ∷ []) $ free1 ! $ move ! (45 ∷ 46 ∷ []) $ free1 ! $ move ! (43 ∷ 44 ∷ []) $ free1 ! $ move ! (41 ∷ 42 ∷ []) $ free1 ! $ move ! (39 ∷ 40 ∷ []) $ free1 ! $ move ! (37 ∷ 38 ∷ []) $ free1 ! $ move ! (35 ∷ 36 ∷ []) $ free1 ! $ move ! (33 ∷ 34 ∷ []) $ free1 ! $ move ! (31 ∷ 32 ∷ []) $ free1 ! $ move ! (29 ∷ 30 ∷ []) $ free1 ! $ move ! (27 ∷ 28 ∷ []) $ free1 ! $ move ! (25 ∷ 26 ∷ []) $ free1 ! $ move ! (23 ∷ 24 ∷ []) $ free1 ! $ move ! (21 ∷ 22 ∷ []) $ free1 ! $ move ! (19 ∷ 20 ∷ []) $ free1 ! $ move ! (17 ∷ 18 ∷ []) $ free1 ! $ move ! (15 ∷ 16 ∷ []) $ free1 ! $ move ! (13 ∷ 14 ∷ []) $ free1 ! $ move ! (11 ∷ 12 ∷ []) $ free1 ! $ move ! (9 ∷ 10 ∷ []) $ free1 ! $ free0 ! $
+          assigns ! (of-opd ! (load ! (from ! (fld ! refl (stop !))) (look-in ! (spot 9 8) (sub ! 1 refl (whole !))))) (from ! (stop !)) (init ! (spot 9 0) refl (LL.lawful N.the-type N′.the-laws 𝓤 H A W .typed (r .answer) _ (parts .1 .0) .0)) $
+          returns-within ! Post refl (look ! (spot 9 0) refl) $ forget ! (spot 9 0) refl $ forget ! (spot 9 1) refl $ forget ! (spot 9 2) refl $ forget ! (spot 9 3) refl $ forget ! (spot 9 4) refl $ forget ! (spot 9 5) refl $ forget ! (spot 9 6) refl $ forget ! (spot 9 7) refl $ forget ! (spot 9 8) refl $ forget ! (spot 9 9) refl $ forget ! (spot 9 10) refl $ forget ! (spot 9 11) refl $ forget ! (spot 9 12) refl $ forget ! (spot 9 13) refl $ forget ! (spot 9 14) refl $ forget ! (spot 9 15) refl $ forget ! (spot 9 16) refl $ forget ! (spot 9 17) refl $ forget ! (spot 9 18) refl $ forget ! (spot 9 19) refl $
+          move ! ((spot 9 0) ∷ (spot 9 0 + 1) ∷ []) $ free1 ! $ move ! ((spot 9 1) ∷ (spot 9 1 + 1) ∷ []) $ free1 ! $ move ! ((spot 9 2) ∷ (spot 9 2 + 1) ∷ []) $ free1 ! $ move ! ((spot 9 3) ∷ (spot 9 3 + 1) ∷ []) $ free1 ! $ move ! ((spot 9 4) ∷ (spot 9 4 + 1) ∷ []) $ free1 ! $ move ! ((spot 9 5) ∷ (spot 9 5 + 1) ∷ []) $ free1 ! $ move ! ((spot 9 6) ∷ (spot 9 6 + 1) ∷ []) $ free1 ! $ move ! ((spot 9 7) ∷ (spot 9 7 + 1) ∷ []) $ free1 ! $ move ! ((spot 9 8) ∷ (spot 9 8 + 1) ∷ []) $ free1 ! $ move ! ((spot 9 9) ∷ (spot 9 9 + 1) ∷ []) $ free1 ! $ move ! ((spot 9 10) ∷ (spot 9 10 + 1) ∷ []) $ free1 ! $ move ! ((spot 9 11) ∷ (spot 9 11 + 1) ∷ []) $ free1 ! $ move ! ((spot 9 12) ∷ (spot 9 12 + 1) ∷ []) $ free1 ! $ move ! ((spot 9 13) ∷ (spot 9 13 + 1) ∷ []) $ free1 ! $ move ! ((spot 9 14) ∷ (spot 9 14 + 1) ∷ []) $ free1 ! $ move ! ((spot 9 15) ∷ (spot 9 15 + 1) ∷ []) $ free1 ! $ move ! ((spot 9 16) ∷ (spot 9 16 + 1) ∷ []) $ free1 ! $ move ! ((spot 9 17) ∷ (spot 9 17 + 1) ∷ []) $ free1 ! $ move ! ((spot 9 18) ∷ (spot 9 18 + 1) ∷ []) $ free1 ! $ move ! ((spot 9 19) ∷ (spot 9 19 + 1) ∷ []) $ free1 ! $ free0 ! $
           owned ! N.the-row (Is N.the-row) (LL.makes N.the-type N′.the-plain 𝓤 H A) (r .answer) _ (parts .1 .0) $ keep ! (1 ∷ 2 ∷ 3 ∷ 4 ∷ 7 ∷ 5 ∷ 0 ∷ []) $
           by ! (exits (r .answer) (N′.lowered (r .answer)) (set ys i (r .session)) ws (ap (λ (a : After). a .answer) (said .0 ∙ agree counted within)) (ap (λ (a : After). set ys i (a .session)) (said .0 ∙ agree counted within)) (said .1 ∙ agree-room counted within) (length-set ys i (r .session)) len))))))))
         where
@@ -336,9 +340,9 @@ module _ {M : Type 1} (𝓤 : URA M) (H : Heap 𝓤) (A : Atoms 𝓤) (W : Given
           use1 W (later (some (λ (r : Answer). (‵ ftrue ⊛ ‵ (N.the-row .own r (v ∷ []))) ⊛ raw (ensured 𝓤 H A out.ended (out.clauses 𝓤 H A mem run) tt tt tt r)))) (id⊢ 𝓤 _) $ await ! tt $ pick ! (λ r.
           split ! $ move ! (1 ∷ []) $ use1 W (raw (fact 𝓤 (r ≡ refused nobody 11 .answer))) (outside-says 𝓤 H A mem run r) $ heard ! (r ≡ refused nobody 11 .answer) (λ said. split ! $ drop ! $
           peeks ! N.the-row (Is N.the-row) (shows 𝓤 H A N.the-row) r (v ∷ []) (λ is.
-          land ! (from ! (stop !)) (init ! 48 refl (LL.lawful N.the-type N′.the-laws 𝓤 H A W .typed r _ is .0)) $
-          returns ! (look ! 48 refl) $ forget ! 48 refl $ forget ! 46 refl $ forget ! 44 refl $ forget ! 42 refl $ forget ! 40 refl $ forget ! 38 refl $ forget ! 36 refl $ forget ! 34 refl $ forget ! 30 refl $ forget ! 28 refl $ forget ! 26 refl $ forget ! 24 refl $
-          move ! (48 ∷ 49 ∷ []) $ free1 ! $ move ! (46 ∷ 47 ∷ []) $ free1 ! $ move ! (44 ∷ 45 ∷ []) $ free1 ! $ move ! (42 ∷ 43 ∷ []) $ free1 ! $ move ! (40 ∷ 41 ∷ []) $ free1 ! $ move ! (38 ∷ 39 ∷ []) $ free1 ! $ move ! (36 ∷ 37 ∷ []) $ free1 ! $ move ! (34 ∷ 35 ∷ []) $ free1 ! $ move ! (32 ∷ 33 ∷ []) $ free1 ! $ move ! (30 ∷ 31 ∷ []) $ free1 ! $ move ! (28 ∷ 29 ∷ []) $ free1 ! $ move ! (26 ∷ 27 ∷ []) $ free1 ! $ move ! (24 ∷ 25 ∷ []) $ free1 ! $ move ! (22 ∷ 23 ∷ []) $ free1 ! $ move ! (20 ∷ 21 ∷ []) $ free1 ! $ move ! (18 ∷ 19 ∷ []) $ free1 ! $ move ! (16 ∷ 17 ∷ []) $ free1 ! $ move ! (14 ∷ 15 ∷ []) $ free1 ! $ move ! (12 ∷ 13 ∷ []) $ free1 ! $ move ! (10 ∷ 11 ∷ []) $ free1 ! $ free0 ! $
+          land ! (from ! (stop !)) (init ! (spot 10 0) refl (LL.lawful N.the-type N′.the-laws 𝓤 H A W .typed r _ is .0)) $
+          returns ! (look ! (spot 10 0) refl) $ forget ! (spot 10 0) refl $ forget ! (spot 10 1) refl $ forget ! (spot 10 2) refl $ forget ! (spot 10 3) refl $ forget ! (spot 10 4) refl $ forget ! (spot 10 5) refl $ forget ! (spot 10 6) refl $ forget ! (spot 10 7) refl $ forget ! (spot 10 9) refl $ forget ! (spot 10 10) refl $ forget ! (spot 10 11) refl $ forget ! (spot 10 12) refl $
+          move ! ((spot 10 0) ∷ (spot 10 0 + 1) ∷ []) $ free1 ! $ move ! ((spot 10 1) ∷ (spot 10 1 + 1) ∷ []) $ free1 ! $ move ! ((spot 10 2) ∷ (spot 10 2 + 1) ∷ []) $ free1 ! $ move ! ((spot 10 3) ∷ (spot 10 3 + 1) ∷ []) $ free1 ! $ move ! ((spot 10 4) ∷ (spot 10 4 + 1) ∷ []) $ free1 ! $ move ! ((spot 10 5) ∷ (spot 10 5 + 1) ∷ []) $ free1 ! $ move ! ((spot 10 6) ∷ (spot 10 6 + 1) ∷ []) $ free1 ! $ move ! ((spot 10 7) ∷ (spot 10 7 + 1) ∷ []) $ free1 ! $ move ! ((spot 10 8) ∷ (spot 10 8 + 1) ∷ []) $ free1 ! $ move ! ((spot 10 9) ∷ (spot 10 9 + 1) ∷ []) $ free1 ! $ move ! ((spot 10 10) ∷ (spot 10 10 + 1) ∷ []) $ free1 ! $ move ! ((spot 10 11) ∷ (spot 10 11 + 1) ∷ []) $ free1 ! $ move ! ((spot 10 12) ∷ (spot 10 12 + 1) ∷ []) $ free1 ! $ move ! ((spot 10 13) ∷ (spot 10 13 + 1) ∷ []) $ free1 ! $ move ! ((spot 10 14) ∷ (spot 10 14 + 1) ∷ []) $ free1 ! $ move ! ((spot 10 15) ∷ (spot 10 15 + 1) ∷ []) $ free1 ! $ move ! ((spot 10 16) ∷ (spot 10 16 + 1) ∷ []) $ free1 ! $ move ! ((spot 10 17) ∷ (spot 10 17 + 1) ∷ []) $ free1 ! $ move ! ((spot 10 18) ∷ (spot 10 18 + 1) ∷ []) $ free1 ! $ move ! ((spot 10 19) ∷ (spot 10 19 + 1) ∷ []) $ free1 ! $ free0 ! $
           -- [the answer; obs; the borrow; three tokens; true; row's fact; area; room]: of the room only its last list is left
           move ! (9 ∷ []) $ fsplit ! $ move ! (1 ∷ []) $ fsplit ! $ use1 W (‵ (fres γ₂ (codedHoleys u8 .code (heres u8 rs)))) (W .names .obs-res γ₂ (codedHoleys u8 .code (heres u8 rs))) $
           use1 W (‵ (finally u8 γ₂ rs)) (res-finally 𝓤 H A W (named 2) κ₂ u8 γ₂ rs) $
@@ -359,24 +363,24 @@ module _ {M : Type 1} (𝓤 : URA M) (H : Heap 𝓤) (A : Atoms 𝓤) (W : Given
 
       starts : Sq W Started (runs C Λ En mir.t-1 (atRet En Post))
       starts =
-          assigns ! (addr ! (from ! (fld ! refl (hop ! (look-in ! 45 (sub ! 0 refl (whole !))) (stop !))))) (from ! (stop !)) (init ! 29 refl (tt, tt)) $
-          assigns ! (agg ! (and-then ! (load ! (from ! (stop !)) (look ! 29 refl)) (and-then ! (load ! (from ! (fld ! refl (stop !))) (look-in ! 45 (sub ! 1 refl (whole !)))) (no-more !)))) (from ! (stop !)) (init ! 27 refl (tt, (tt, (record { fits = gn .0 }, tt)))) $
+          assigns ! (addr ! (from ! (fld ! refl (hop ! (look-in ! (spot 9 1) (sub ! 0 refl (whole !))) (stop !))))) (from ! (stop !)) (init ! (spot 9 9) refl (tt, tt)) $
+          assigns ! (agg ! (and-then ! (load ! (from ! (stop !)) (look ! (spot 9 9) refl)) (and-then ! (load ! (from ! (fld ! refl (stop !))) (look-in ! (spot 9 1) (sub ! 1 refl (whole !)))) (no-more !)))) (from ! (stop !)) (init ! (spot 9 10) refl (tt, (tt, (record { fits = gn .0 }, tt)))) $
           lft-new ! tt (λ α. move ! (1 ∷ 2 ∷ 3 ∷ []) $
           use3 W (later (some (λ (δ : GName). ‵ (Shr α δ) ⊛ ‵ (LentShared T.the-row κ (α ∷ []) q γ b o ys)))) (lends-shared T.the-row κ (α ∷ []) q γ b o ys 𝓤 H A W (named 0) gn) $ await ! tt $ pick ! (λ δ. split ! $
           -- [the row as `&`; what is kept of it; the new token; two tokens; true; row's fact; area; room; the locals]
           move ! (2 ∷ 0 ∷ []) $ use2 W (raw (Passing 𝓤 H A mem run .pre (to-pass α δ))) (goes-pass α δ) $
-          calls-at ! fm (Passing 𝓤 H A mem run) known-pass (to-pass α δ) (and-then ! (load ! (from ! (stop !)) (look ! 26 refl)) (no-more !)) (λ v.
+          calls-at ! fm (Passing 𝓤 H A mem run) known-pass (to-pass α δ) (and-then ! (load ! (from ! (stop !)) (look ! (spot 8 10) refl)) (no-more !)) (λ v.
           use1 W (later (some (λ (r : Tally). ((‵ (flft (α ∷ []) fullShare) ⊛ ‵ ftrue) ⊛ ‵ (U.the-row .own r (v ∷ []))) ⊛ raw (ensured 𝓤 H A pass.ended (pass.clauses 𝓤 H A mem run) (α ∷ [], tt) (row-ref δ ys, tt) tt r)))) (id⊢ 𝓤 _) $ await ! tt $ pick ! (λ r.
           split ! $ move ! (1 ∷ []) $ use1 W (raw (fact 𝓤 (r ≡ tallied S.nothing ys))) (pass-says α δ r) $ heard ! (r ≡ tallied S.nothing ys) (λ said. split ! $ split ! $
           -- the lifetime is ended, and the row comes back
           lft-end ! tt $ move ! (0 ∷ 3 ∷ []) $ use2 W (later (‵ (Obs ys) ⊛ (‵ (Bor ys) ⊛ ‵ (flft κ q)))) (comes-back T.the-row κ (α ∷ []) q γ b o ys 𝓤 H A W) $ await ! tt $ split ! $ move ! (1 ∷ []) $ split ! $
           -- [the borrow; its token; obs; true; the tally; two tokens; true; row's fact; area; room; the locals]
           move ! (4 ∷ []) $ peeks ! U.the-row (Is U.the-row) (shows 𝓤 H A U.the-row) r (v ∷ []) (λ is. drop ! $ move ! (3 ∷ []) $ drop ! $ move ! (2 ∷ []) $
-          land ! (from ! (stop !)) (init ! 33 refl (LL.lawful U.the-type U′.the-laws 𝓤 H A W .typed r _ is .0)) $
-          rewrite ! 33 (λ (us : List Val). ‵ (fat fullShare U′.mir l₇ 0 (hd us))) (LL.tells U.the-type U′.the-laws r (v ∷ []) is) refl $
-          assigns ! (of-opd ! (load ! (from ! (fld ! refl (stop !))) (look-in ! 45 (sub ! 1 refl (whole !))))) (from ! (stop !)) (init ! 25 refl (tt, record { fits = gn .0 })) $
-          assigns ! (bin ! (load ! (from ! (stop !)) (look ! 43 refl)) (load ! (from ! (stop !)) (look ! 25 refl)) tt) (from ! (stop !)) (init ! 23 refl (tt, tt)) $
-          first ! $ branches ! (load ! (from ! (stop !)) (look ! 23 refl)) (λ less. inside r (subst (Is U.the-row r) (LL.tells U.the-type U′.the-laws r (v ∷ []) is) is) said less) (λ over. skips ! $ exec ! C Λ En mir.t-7 (atRet En Post) $ outside r over)))))))
+          land ! (from ! (stop !)) (init ! (spot 9 7) refl (LL.lawful U.the-type U′.the-laws 𝓤 H A W .typed r _ is .0)) $
+          rewrite ! (spot 9 7) (λ (us : List Val). ‵ (fat fullShare U′.mir l₇ 0 (hd us))) (LL.tells U.the-type U′.the-laws r (v ∷ []) is) refl $
+          assigns ! (of-opd ! (load ! (from ! (fld ! refl (stop !))) (look-in ! (spot 9 1) (sub ! 1 refl (whole !))))) (from ! (stop !)) (init ! (spot 9 11) refl (tt, record { fits = gn .0 })) $
+          assigns ! (bin ! (load ! (from ! (stop !)) (look ! (spot 9 2) refl)) (load ! (from ! (stop !)) (look ! (spot 9 11) refl)) tt) (from ! (stop !)) (init ! (spot 9 12) refl (tt, tt)) $
+          first ! $ branches ! (load ! (from ! (stop !)) (look ! (spot 9 12) refl)) (λ less. inside r (subst (Is U.the-row r) (LL.tells U.the-type U′.the-laws r (v ∷ []) is) is) said less) (λ over. skips ! $ exec ! C Λ En mir.t-7 (atRet En Post) $ outside r over)))))))
 
     module _ (C : Calls 𝓤 H) (Λ : Loops 𝓤 H) (fm : FmC 𝓤 H (W .laws) C) (known-pass : Triple 𝓤 (C #pass) (Passing 𝓤 H A mem run)) (known-event : Triple 𝓤 (C #event) (Happening 𝓤 H A mem run)) (known-outside : Triple 𝓤 (C #outside) (Outside 𝓤 H A mem run)) where
       walk : ent 𝓤 (onEntry 𝓤 H A f.signature (κ, (κ₁, (κ₂, tt))) (q, (q₁, (q₂, tt))) x at) (WpFn 𝓤 H C Λ code.function (row-val ∷ vint w64 i ∷ low-event ev ∷ low-limits li ∷ area-val ∷ room-val ∷ []) Post)
@@ -384,7 +388,7 @@ module _ {M : Type 1} (𝓤 : URA M) (H : Heap 𝓤) (A : Atoms 𝓤) (W : Given
           qed W ((‵ (flft κ q) ⊛ Toks) ∷ ‵ (owns (MutSlice (named 0) κ T.the-row ∷ usize ∷ E.the-row ∷ L.the-row ∷ ShrSlice (named 1) κ₁ u8 ∷ MutSlice (named 2) κ₂ u8 ∷ []) x at) ∷ []) ∵
           enter ! C Λ code.function (row-val ∷ vint w64 i ∷ low-event ev ∷ low-limits li ∷ area-val ∷ room-val ∷ []) _ $
           alloc1 ! (λ l₀. alloc1 ! (λ l₁. alloc1 ! (λ l₂. alloc1 ! (λ l₃. alloc1 ! (λ l₄. alloc1 ! (λ l₅. alloc1 ! (λ l₆. alloc1 ! (λ l₇. alloc1 ! (λ l₈. alloc1 ! (λ l₉. alloc1 ! (λ l₁₀. alloc1 ! (λ l₁₁. alloc1 ! (λ l₁₂. alloc1 ! (λ l₁₃. alloc1 ! (λ l₁₄. alloc1 ! (λ l₁₅. alloc1 ! (λ l₁₆. alloc1 ! (λ l₁₇. alloc1 ! (λ l₁₈. alloc1 ! (λ l₁₉. alloc0 ! $ params1 ! $
-          pass1 ! (init ! 36 refl (tt, (tt, (record { fits = gn .0 }, tt)))) $ pass1 ! (init ! 34 refl (tt, record { fits = gi })) $ pass1 ! (init ! 32 refl (LL.lawful E.the-type E′.the-laws 𝓤 H A W .typed ev _ gev .0)) $ pass1 ! (init ! 30 refl (LL.lawful L.the-type L′.the-laws 𝓤 H A W .typed li _ gli .0)) $ pass1 ! (init ! 28 refl (tt, (tt, (record { fits = ga .0 }, tt)))) $ pass1 ! (init ! 26 refl (tt, (tt, (record { fits = gr .0 }, tt)))) $ pass0 ! $
+          pass1 ! (init ! (spot 0 1) refl (tt, (tt, (record { fits = gn .0 }, tt)))) $ pass1 ! (init ! (spot 0 2) refl (tt, record { fits = gi })) $ pass1 ! (init ! (spot 0 3) refl (LL.lawful E.the-type E′.the-laws 𝓤 H A W .typed ev _ gev .0)) $ pass1 ! (init ! (spot 0 4) refl (LL.lawful L.the-type L′.the-laws 𝓤 H A W .typed li _ gli .0)) $ pass1 ! (init ! (spot 0 5) refl (tt, (tt, (record { fits = ga .0 }, tt)))) $ pass1 ! (init ! (spot 0 6) refl (tt, (tt, (record { fits = gr .0 }, tt)))) $ pass0 ! $
           move ! (41 ∷ []) $ fsplit ! $ fsplit ! $ move ! (1 ∷ []) $ fsplit ! $ move ! (3 ∷ []) $ fsplit ! $ drop ! $ fsplit ! $ drop ! $ fsplit ! $ drop ! $ fsplit ! $ move ! (1 ∷ []) $ fsplit ! $
           -- [room; true; area; obs; the borrow; row's fact; the locals; the tokens]
           move ! (46 ∷ []) $ split ! $ move ! (1 ∷ []) $ split ! $ move ! (1 ∷ []) $ split ! $
