@@ -45,9 +45,12 @@ pub rows-length : (row : List Session) (e : RowEvent) → length (rowThen row e)
 rows-length row e = length-set row (e .at) (rowStep row e .session)
 
 -- outside there is no session, and none after the event
+past-row : (row : List Session) (at : ℕ) → length row ≤ at → inRow row at ≡ false
+past-row row at past = ap (λ (b : Bool). b && leb (length row) 64) (le-ltb at (length row) past)
+
 outside-step : (row : List Session) (e : RowEvent) → length row ≤ e .at → rowStep row e ≡ refused (sessionAt row (e .at)) 11
 unfolding eventAt
-outside-step row e past = left _ _ (ap (λ (b : Bool). b && leb (length row) 64) (le-ltb (e .at) (length row) past))
+outside-step row e past = left _ _ (past-row row (e .at) past)
 
 -- ---- sound rows
 pub sound-at : (row : List Session) (at : ℕ) → allSound row ≡ true → at < length row → sound (sessionAt row at) ≡ true
@@ -142,7 +145,7 @@ step-counts row e n = go (decLt (e .at) (length row))
         let same : rowStep row e .session ≡ s = ap (λ (a : After). a .session) (outside-step row e past) in
         let lost : once (lostBy row e n) ≡ 0 = ap (λ (z : Session). once (uses s n && not (uses z n))) same ∙ never-both (uses s n) in
         let gained : once (gainedBy row e n) ≡ 0 = ap (λ (z : Session). once (uses z n && not (uses s n))) same ∙ never-both (uses s n) in
-        let stays : count (rowThen row e) n ≡ count row n = ap (λ (r : List Session). count r n) (sym (outside-row row (e .at) (e .event) (e .limits) (e .area) (length (e .room)) past)) in
+        let stays : count (rowThen row e) n ≡ count row n = ap (λ (r : List Session). count r n) (sym (outside-row row (e .at) (e .event) (past-row row (e .at) past) (e .limits) (e .area) (length (e .room)))) in
         rw (lost, gained, stays) refl
 
 one-step : (c c′ c″ g l g′ l′ : ℕ) → c′ + l ≡ c + g → c″ + l′ ≡ c′ + g′ → c″ + (l + l′) ≡ c + (g + g′)

@@ -16,6 +16,7 @@ use Rattle.row.proofs.Tally.tally.Reads as tally
 use Rattle.row.proofs.Tally.count.Reads as count
 use Rattle.row.proofs.event_in.Reads as event-in
 use Rattle.row.proofs.outside.Reads as outside
+use Rattle.row.proofs.uncounted.Reads as uncounted
 use Rattle.row.proofs.tally_of as tally-of
 
 pub none-determined : Determined (none.Post tt)
@@ -36,8 +37,11 @@ count-determined = by-equation _
 pub outside-determined : Determined (outside.Post tt)
 outside-determined = by-equation _
 
+pub uncounted-determined : Determined (uncounted.Post tt)
+uncounted-determined = by-equation _
+
 pub event-in-determined : (κs : _) (a r r′ s s′ : _) → event-in.Post κs a r s → event-in.Post κs a r′ s′
-    → (r ≡ r′) × (s .1 .1 .1 .1 .1 .1 .0 .now ≡ s′ .1 .1 .1 .1 .1 .1 .0 .now)
+    → (r ≡ r′) × (s .1 .1 .1 .1 .1 .0 .now ≡ s′ .1 .1 .1 .1 .1 .0 .now)
 event-in-determined κs a r r′ s s′ p q = (p .0 ∙ sym (q .0), p .1 ∙ sym (q .1))
 
 -- the function that is lent a row, over the contract that its walk ends in: beside one another two outcomes that it allows are equal

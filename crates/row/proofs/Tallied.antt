@@ -6,13 +6,13 @@ use mathlib.Core.Path.{_≡_, refl, sym, ap, _∙_}
 use mathlib.Core.Bool.{Bool, true, false, _&&_, false≢true}
 use mathlib.Core.List.{List, [], _∷_}
 use lib.ListN.{length, getD, set, length-set, getD-replicate}
-use lib.Seq.{getD-set-same, getD-set-other}
+use lib.Seq.{getD-set-same, getD-set-other, set-getD}
 use lib.Dec.{ltb, leb}
 use native.Mathlib.Decide.{decLt}
 use native.Mathlib.Nat.{le-refl, zero-add}
 use native.Mathlib.Numerals.{add-one}
 use native.Mathlib.Omega.{arith}
-use borrow.Author.Tests.{ltb-true, ltb-false, lt-ltb, le-ltb, le-leb, leb-true, lt-leb}
+use borrow.Author.Tests.{ltb-true, ltb-false, le-ltb, le-leb, leb-true, lt-leb}
 use Rattle.choice.specs.Pick.{pick}
 use Rattle.choice.proofs.Branch.{taken, left, by-test, pick-both}
 use Rattle.choice.proofs.Tests.{and-second}
@@ -30,8 +30,8 @@ use Rattle.row.specs.declared.Limits.{Limits}
 use Rattle.row.specs.declared.Tally.{Tally}
 use Rattle.row.specs.declared.Count.{Count}
 use Rattle.row.specs.Limits.{capped, limitOf}
-use Rattle.row.specs.Event.{happens}
-use Rattle.row.specs.Row.{nobody, sessionAt, uses, count, underLimit, allSound, isRow, inRow, eventAt, rowAfter, roomAfter, countOf}
+use Rattle.row.specs.Event.{happens, writes}
+use Rattle.row.specs.Row.{nobody, sessionAt, uses, count, underLimit, allSound, isRow, inRow, eventAt, rowAfter, roomAfter, notCounted, countOf}
 use Rattle.row.specs.Tally.{nothing, more, counted, tally, tallied, below, under, eventIn, roomIn, countIn}
 
 -- ---- one set of counts
@@ -158,55 +158,51 @@ count-le (s ∷ row) n = let h = count-le row n in by-test (λ (m : ℕ). m + co
 
 -- ---- by what the pass found
 module _ (row : List Session) (at : ℕ) (e : Event) where
-  in-row : at < length row → inRow row at ≡ leb (length row) 64
-  in-row l = ap (λ (b : Bool). b && leb (length row) 64) (lt-ltb at (length row) l)
-
-  pub event-in-row : (l : Limits) (area : List ℕ) (room : ℕ) → at < length row
-      → eventIn (sessionAt row at) (length row) (tallied nothing row) e l area room ≡ eventAt row at e l area room
+  pub event-in-row : (l : Limits) (area : List ℕ) (room : ℕ) → inRow row at ≡ true
+      → eventIn (sessionAt row at) (tallied nothing row) e l area room ≡ eventAt row at e l area room
   unfolding eventIn eventAt
   event-in-row l area room inside =
       let s = sessionAt row at in
-      ap (λ (u : ℕ). pick (leb (length row) 64) (pick (tallied nothing row .sound) (happens e s u area room) (refused s 10)) (refused s 11)) (under-limit row l)
-      ∙ ap (λ (b : Bool). pick (leb (length row) 64) (pick b (happens e s (underLimit l row) area room) (refused s 10)) (refused s 11)) (tallied-sound nothing row)
-      ∙ ap (λ (b : Bool). pick b (pick (allSound row) (happens e s (underLimit l row) area room) (refused s 10)) (refused s 11)) (sym (in-row inside))
+      ap (λ (u : ℕ). pick (tallied nothing row .sound) (happens e s u area room) (refused s 10)) (under-limit row l)
+      ∙ ap (λ (b : Bool). pick b (happens e s (underLimit l row) area room) (refused s 10)) (tallied-sound nothing row)
+      ∙ sym (taken _ _ inside)
 
-  pub room-in-row : (room : List ℕ) → at < length row → roomIn (sessionAt row at) (length row) (tallied nothing row) e room ≡ roomAfter row at e room
+  pub room-in-row : (room : List ℕ) → inRow row at ≡ true → roomIn (sessionAt row at) (tallied nothing row) e room ≡ roomAfter row at e room
   unfolding roomIn roomAfter
-  room-in-row room inside = rw (in-row inside, tallied-sound nothing row) refl
+  room-in-row room inside = ap (λ (b : Bool). pick b (writes e (sessionAt row at) room) room) (tallied-sound nothing row) ∙ sym (taken _ _ inside)
 
-  -- ---- where there is no such place
-  not-in-row : length row ≤ at → inRow row at ≡ false
-  not-in-row past = ap (λ (b : Bool). b && leb (length row) 64) (le-ltb at (length row) past)
+  -- ---- where there is no such session: nothing changes
+  module _ (outside : inRow row at ≡ false) where
+    refused-outside : (l : Limits) (area : List ℕ) (room : ℕ) → eventAt row at e l area room ≡ refused (sessionAt row at) 11
+    unfolding eventAt
+    refused-outside l area room = left _ _ outside
 
-  pub outside-answer : (l : Limits) (area : List ℕ) (room : ℕ) → length row ≤ at → refused nobody 11 .answer ≡ eventAt row at e l area room .answer
-  unfolding eventAt
-  outside-answer l area room past = sym (ap (λ (a : After). a .answer) (left _ _ (not-in-row past)))
+    pub outside-answer : (l : Limits) (area : List ℕ) (room : ℕ) → refused nobody 11 .answer ≡ eventAt row at e l area room .answer
+    outside-answer l area room = sym (ap (λ (a : After). a .answer) (refused-outside l area room))
 
-  pub outside-room : (room : List ℕ) → length row ≤ at → room ≡ roomAfter row at e room
-  unfolding roomAfter
-  outside-room room past = sym (left _ _ (not-in-row past))
+    pub outside-row : (l : Limits) (area : List ℕ) (room : ℕ) → row ≡ rowAfter row at e l area room
+    outside-row l area room = sym (ap (λ (a : After). set row at (a .session)) (refused-outside l area room) ∙ set-getD row at nobody)
 
-set-past : (row : List Session) (at : ℕ) (s : Session) → length row ≤ at → set row at s ≡ row
-set-past [] at s past = refl
-set-past (x ∷ row) zero s past = absurd (omega arith)
-set-past (x ∷ row) (suc at) s past = ap (λ (l : List Session). x ∷ l) (set-past row at s (omega arith))
-
-pub outside-row : (row : List Session) (at : ℕ) (e : Event) (l : Limits) (area : List ℕ) (room : ℕ) → length row ≤ at → row ≡ rowAfter row at e l area room
-outside-row row at e l area room past = sym (set-past row at (eventAt row at e l area room .session) past)
+    pub outside-room : (room : List ℕ) → room ≡ roomAfter row at e room
+    unfolding roomAfter
+    outside-room room = sym (left _ _ outside)
 
 -- ---- the count that is asked for
-pub count-in-row : (row : List Session) (n : ℕ) → countIn (length row) (tallied nothing row) n ≡ countOf row n
+pub count-in-row : (row : List Session) (n : ℕ) → isRow row ≡ true → countIn (tallied nothing row) n ≡ countOf row n
 unfolding countIn countOf
-count-in-row row n =
-    pick-both _≡_ (isRow row)
-    (λ h. rw (tallied-sound nothing row)
+count-in-row row n h =
+    rw (tallied-sound nothing row)
     (pick-both _≡_ (allSound row)
-    (λ _. pick-both _≡_ (knownApplication n) (λ k. let l = numbered-is 13 n k in ap found (row-count row n (l .0) (l .1) ∙ capped-is (count row n) (small h))) (λ _. refl))
-    (λ _. refl)))
-    (λ _. refl)
+    (λ _. pick-both _≡_ (knownApplication n) (λ k. let l = numbered-is 13 n k in ap found (row-count row n (l .0) (l .1) ∙ capped-is (count row n) small)) (λ _. refl))
+    (λ _. refl))
+    ∙ sym (taken _ _ h)
   where
     found : ℕ → Count
     found m = record { refusal = 0; count = m }
 
-    small : isRow row ≡ true → count row n ≤ 64
-    small h = let c = count-le row n in let r = leb-true (length row) 64 (and-second (ltb 0 (length row)) (leb (length row) 64) h) in omega arith
+    small : count row n ≤ 64
+    small = let c = count-le row n in let r = leb-true (length row) 64 (and-second (ltb 0 (length row)) (leb (length row) 64) h) in omega arith
+
+pub not-counted : (row : List Session) (n : ℕ) → isRow row ≡ false → notCounted 11 ≡ countOf row n
+unfolding countOf
+not-counted row n h = sym (left _ _ h)

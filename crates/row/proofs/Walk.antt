@@ -1,6 +1,9 @@
--- What the walks of functions that are lent a row share: pieces of a body, the places of locals, and the machine value of a tally. Assumes nothing.
+-- What the walks of functions that are lent a row share: pieces of a body, the places of locals, the machine value of a tally, and tests as facts. Assumes nothing.
 use Prim.Native.Nat.{ℕ, _+_, _-_, _*_}
+use mathlib.Core.Path.{_≡_, refl}
+use mathlib.Core.Bool.{Bool, true, false, not}
 use mathlib.Core.List.{[], _∷_, List}
+use lib.Dec.{T}
 use package.mir.Syntax.{Body, skip, seq, assign, block, loop, cond, switch, exit, return, call}
 use package.mir.Val.{Val, vunit}
 use denote.Struct.Laws as LL
@@ -46,3 +49,12 @@ hd (v ∷ vs) = v
 -- the machine value of a tally
 abbrev pub low-tally : Tally → Val
 low-tally t = hd (LL.vals U.the-type U′.the-laws t)
+
+-- a test that was taken, and one that was not
+pub is-true : (b : Bool) → T b → b ≡ true
+is-true true h = refl
+is-true false h = absurd h
+
+pub is-false : (b : Bool) → T (not b) → b ≡ false
+is-false true h = absurd h
+is-false false h = refl

@@ -66,11 +66,13 @@ rowAfter row at e l area room = set row at (eventAt row at e l area room .sessio
 unfoldable pub roomAfter : List Session → ℕ → Event → List ℕ → List ℕ
 roomAfter row at e room = pick (inRow row at) (pick (allSound row) (writes e (sessionAt row at) room) room) room
 
+-- refused, no count
+abbrev pub notCounted : ℕ → Count
+notCounted refusal = record { refusal = refusal; count = 0 }
+
 -- how many use the application n: 11, 10, 6
 unfoldable pub countOf : List Session → ℕ → Count
 countOf row n =
     pick (isRow row)
-    (pick (allSound row)
-    (pick (knownApplication n) (record { refusal = 0; count = count row n }) (record { refusal = 6; count = 0 }))
-    (record { refusal = 10; count = 0 }))
-    (record { refusal = 11; count = 0 })
+    (pick (allSound row) (pick (knownApplication n) (record { refusal = 0; count = count row n }) (notCounted 6)) (notCounted 10))
+    (notCounted 11)

@@ -4,7 +4,7 @@ use Prim.Native.Nat.{ℕ, zero, suc, _+_, _-_}
 use mathlib.Core.Bool.{Bool, true, _&&_}
 use mathlib.Core.List.{List, [], _∷_}
 use lib.ListN.{getD, set, replicate}
-use lib.Dec.{ltb, leb}
+use lib.Dec.{ltb}
 use Rattle.choice.specs.Pick.{pick}
 use Rattle.sets.specs.Set.{has, chosen}
 use Rattle.kinds.specs.Kinds.{knownApplication}
@@ -48,19 +48,16 @@ below counts limits n = ltb (getD counts (n - 1) 0) (capped (getD limits (n - 1)
 unfoldable pub under : Tally → Limits → ℕ
 under t l = chosen 13 (below (t .counts) (l .each)) 13
 
--- an event of one session of so many, by what the pass found
-unfoldable pub eventIn : Session → ℕ → Tally → Event → Limits → List ℕ → ℕ → After
-eventIn s sessions t e l area room =
-    pick (leb sessions 64) (pick (t .sound) (happens e s (under t l) area room) (refused s 10)) (refused s 11)
+-- an event of one session of the row, by what the pass found
+unfoldable pub eventIn : Session → Tally → Event → Limits → List ℕ → ℕ → After
+eventIn s t e l area room = pick (t .sound) (happens e s (under t l) area room) (refused s 10)
 
-unfoldable pub roomIn : Session → ℕ → Tally → Event → List ℕ → List ℕ
-roomIn s sessions t e room = pick (leb sessions 64) (pick (t .sound) (writes e s room) room) room
+unfoldable pub roomIn : Session → Tally → Event → List ℕ → List ℕ
+roomIn s t e room = pick (t .sound) (writes e s room) room
 
--- how many of so many sessions use the application n
-unfoldable pub countIn : ℕ → Tally → ℕ → Count
-countIn sessions t n =
-    pick (ltb 0 sessions && leb sessions 64)
-    (pick (t .sound)
+-- how many sessions of the row use the application n
+unfoldable pub countIn : Tally → ℕ → Count
+countIn t n =
+    pick (t .sound)
     (pick (knownApplication n) (record { refusal = 0; count = getD (t .counts) (n - 1) 0 }) (record { refusal = 6; count = 0 }))
-    (record { refusal = 10; count = 0 }))
-    (record { refusal = 11; count = 0 })
+    (record { refusal = 10; count = 0 })

@@ -67,32 +67,26 @@ impl Tally {
         out
     }
 
-    // How many of so many sessions use an application.
-    pub fn count(self, sessions: usize, ta_id: u32) -> Count
-        ensures { λ r. ⌜ r ≡ countIn sessions self «ta_id» ⌝ }
+    // How many sessions of the row use an application.
+    pub fn count(self, ta_id: u32) -> Count
+        ensures { λ r. ⌜ r ≡ countIn self «ta_id» ⌝ }
     {
         let counts = self.counts;
-        if (0 < sessions) & (sessions <= 64) {
-            if self.sound {
-                if TaId(ta_id).is_known() {
-                    let k = (ta_id - 1) as usize;
-                    return Count {
-                        refusal: 0,
-                        count: counts[k],
-                    };
-                }
+        if self.sound {
+            if TaId(ta_id).is_known() {
+                let k = (ta_id - 1) as usize;
                 return Count {
-                    refusal: 6,
-                    count: 0,
+                    refusal: 0,
+                    count: counts[k],
                 };
             }
             return Count {
-                refusal: 10,
+                refusal: 6,
                 count: 0,
             };
         }
         Count {
-            refusal: 11,
+            refusal: 10,
             count: 0,
         }
     }

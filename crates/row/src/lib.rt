@@ -3,7 +3,7 @@
 ghost use mathlib.Core.Path.{_≡_};
 ghost use lib.ListN.{length};
 ghost use Rattle.session.specs.Events.{refused};
-ghost use Rattle.row.specs.Row.{nobody};
+ghost use Rattle.row.specs.Row.{nobody, notCounted};
 ghost use Rattle.row.specs.Tally.{nothing, tallied, eventIn, roomIn};
 use session::After;
 use session::Answer;
@@ -48,28 +48,27 @@ pub struct Tally {
     pub counts: [u8; 13],
 }
 
-// The event of one session of so many, by what the pass over all of them found.
+// How many sessions a row may have.
+pub const MOST: usize = 64;
+
+// The event of one session of the row, by what the pass over all of them found.
 pub fn event_in(
     s: Session,
-    sessions: usize,
     tally: Tally,
     event: Event,
     limits: Limits,
     area: &[u8],
     room: &mut [u8],
 ) -> After
-    ensures { λ r. ⌜ (r ≡ eventIn s sessions tally event limits (now (area .entry)) (length (now (room .entry)))) × (now (room .exit) ≡ roomIn s sessions tally event (now (room .entry))) ⌝ }
+    ensures { λ r. ⌜ (r ≡ eventIn s tally event limits (now (area .entry)) (length (now (room .entry)))) × (now (room .exit) ≡ roomIn s tally event (now (room .entry))) ⌝ }
 {
-    if sessions <= 64 {
-        if tally.sound {
-            return event.happens(s, tally.under(limits), area, room);
-        }
-        return s.refused(10);
+    if tally.sound {
+        return event.happens(s, tally.under(limits), area, room);
     }
-    s.refused(11)
+    s.refused(10)
 }
 
-// The answer where the row has no such number.
+// The answer where there is no such session: the number is outside the row, or the row is none.
 pub fn outside() -> Answer
     ensures { λ r. ⌜ r ≡ refused nobody 11 .answer ⌝ }
 {
@@ -79,6 +78,16 @@ pub fn outside() -> Answer
         lost: 0,
         gained: 0,
         written: 0,
+    }
+}
+
+// The count where the row is none.
+pub fn uncounted() -> Count
+    ensures { λ r. ⌜ r ≡ notCounted 11 ⌝ }
+{
+    Count {
+        refusal: 11,
+        count: 0,
     }
 }
 

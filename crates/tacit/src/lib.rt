@@ -195,8 +195,11 @@ pub extern "C" fn tacit_set_limit(limits: Limits, ta_id: u32, limit: u32) -> Lim
 pub extern "C" fn tacit_row_count(row: &[Session], ta_id: u32) -> Count
     ensures { λ r. ⌜ r ≡ countOf (now (row .entry)) «ta_id» ⌝ }
 {
-    let tally = row::tally_of(row);
-    tally.count(row.len(), ta_id)
+    if (0 < row.len()) & (row.len() <= row::MOST) {
+        let tally = row::tally_of(row);
+        return tally.count(ta_id);
+    }
+    row::uncounted()
 }
 
 // The row is lent: one pass over it, then the session is taken out, the event happens to it by value, and it is stored back.
@@ -211,9 +214,9 @@ pub extern "C" fn tacit_row_event(
 ) -> Answer
     ensures { λ r. ⌜ (r ≡ eventAt (now (row .entry)) at event limits (now (area .entry)) (length (now (room .entry))) .answer) × (now (row .exit) ≡ rowAfter (now (row .entry)) at event limits (now (area .entry)) (length (now (room .entry)))) × (now (room .exit) ≡ rowRoom (now (row .entry)) at event (now (room .entry))) ⌝ }
 {
-    let tally = row::tally_of(row);
-    if at < row.len() {
-        let after = row::event_in(row[at], row.len(), tally, event, limits, area, room);
+    if (at < row.len()) & (row.len() <= row::MOST) {
+        let tally = row::tally_of(row);
+        let after = row::event_in(row[at], tally, event, limits, area, room);
         row[at] = after.session;
         return after.answer;
     }

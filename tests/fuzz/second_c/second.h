@@ -21,6 +21,11 @@ struct tacit_permission second_permitted(const uint8_t *record, size_t record_le
 struct tacit_kinds second_permitted_kinds(const uint8_t *record, size_t record_len);
 struct tacit_retry second_retry_interval(const uint8_t *record, size_t record_len);
 bool second_sound(const uint8_t *record, size_t record_len);
+struct tacit_loaded second_load(const uint8_t *record, size_t record_len);
+uint8_t second_store(struct tacit_session session, uint8_t *record, size_t record_len);
+struct tacit_limited second_set_limit(struct tacit_limits limits, uint32_t ta_id, uint32_t limit);
+struct tacit_count second_row_count(const struct tacit_session *row, size_t row_len,
+                                    uint32_t ta_id);
 struct tacit_answer second_row_event(struct tacit_session *row, size_t row_len, size_t at,
                                      struct tacit_event event, struct tacit_limits limits,
                                      const uint8_t *area, size_t area_len, uint8_t *room,

@@ -1,6 +1,5 @@
 -- `row::event_in` meets its contract: each return by the tests that led there. Assumes nothing.
 use mathlib.Core.Path.{sym, _∙_}
-use borrow.Author.Tests.{le-leb, lt-leb}
 use Rattle.choice.proofs.Branch.{taken, left}
 use Rattle.row.specs.Tally.{eventIn, roomIn}
 use borrow.Author.Needs.{needs}
@@ -18,31 +17,16 @@ same-length c = search needs
 
 returns : tie.Need-returns
 unfolding eventIn roomIn
-returns c = (rw (sym (c .before .before .before .before .under .ensures)) (c .before .before .happens .ensures .0) ∙ sym (taken _ _ (le-leb _ _ (c .before .before .before .before .before .before .if1 .taken)) ∙ taken _ _ (c .before .before .before .before .before .if2 .taken)), c .before .before .happens .ensures .1 ∙ sym (taken _ _ (le-leb _ _ (c .before .before .before .before .before .before .if1 .taken)) ∙ taken _ _ (c .before .before .before .before .before .if2 .taken)))
+returns c = (rw (sym (c .before .before .before .before .under .ensures)) (c .before .before .happens .ensures .0) ∙ sym (taken _ _ (c .before .before .before .before .before .if1 .taken)), c .before .before .happens .ensures .1 ∙ sym (taken _ _ (c .before .before .before .before .before .if1 .taken)))
 
 refused-requires : tie.Need-refused-requires
 refused-requires c κs = search needs
 
 returns-2 : tie.Need-returns-2
 unfolding eventIn roomIn
-returns-2 c = (c .refused .ensures ∙ sym (taken _ _ (le-leb _ _ (c .before .before .if1 .taken)) ∙ left _ _ (c .before .if2 .left)), sym (taken _ _ (le-leb _ _ (c .before .before .if1 .taken)) ∙ left _ _ (c .before .if2 .left)))
-
-refused-requires-2 : tie.Need-refused-requires-2
-refused-requires-2 c κs = search needs
-
-returns-3 : tie.Need-returns-3
-unfolding eventIn roomIn
-returns-3 c = (c .refused2 .ensures ∙ sym (left _ _ (lt-leb _ _ (c .before .if1 .left))), sym (left _ _ (lt-leb _ _ (c .before .if1 .left))))
+returns-2 c = (c .refused .ensures ∙ sym (left _ _ (c .before .if1 .left)), sym (left _ _ (c .before .if1 .left)))
 
 pub event-in-spec : {M : Type 1} → statement M
 event-in-spec =
     tie.close
-    (tie.spec
-    under-requires
-    happens-requires
-    same-length
-    returns
-    refused-requires
-    returns-2
-    refused-requires-2
-    returns-3)
+    (tie.spec under-requires happens-requires same-length returns refused-requires returns-2)

@@ -63,6 +63,12 @@ pub struct Session {
 }
 
 #[repr(C)]
+pub struct Loaded {
+    refusal: u8,
+    session: Session,
+}
+
+#[repr(C)]
 pub struct Event {
     which: u32,
     ta_id: u32,
@@ -75,7 +81,32 @@ pub struct Limits {
     of: [u8; 13],
 }
 
+#[repr(C)]
+pub struct Limited {
+    refusal: u8,
+    limits: Limits,
+}
+
+#[repr(C)]
+pub struct Count {
+    refusal: u8,
+    count: u8,
+}
+
 impl Session {
+    fn of(fields: second::Fields) -> Session {
+        Session {
+            state: fields.state,
+            flags: fields.flags,
+            disabled: fields.disabled,
+            enabled: fields.enabled,
+            listed: fields.listed,
+            protects: fields.protects,
+            hello: fields.hello,
+            next: fields.next,
+        }
+    }
+
     fn fields(&self) -> second::Fields {
         second::Fields {
             state: self.state,
@@ -121,7 +152,7 @@ impl From<second::Answer> for Answer {
 
 /// # Safety
 /// With a length other than 0 the pointer is good for it.
-unsafe fn lent<'a>(start: *const u8, length: usize) -> &'a [u8] {
+unsafe fn lent<'a, T>(start: *const T, length: usize) -> &'a [T] {
     if length == 0 {
         &[]
     } else {
@@ -256,6 +287,45 @@ pub unsafe extern "C" fn second_retry_interval(record: *const u8, record_len: us
 #[no_mangle]
 pub unsafe extern "C" fn second_sound(record: *const u8, record_len: usize) -> bool {
     second::sound(lent(record, record_len))
+}
+
+#[no_mangle]
+pub unsafe extern "C" fn second_load(record: *const u8, record_len: usize) -> Loaded {
+    let answer = second::load(lent(record, record_len));
+    Loaded {
+        refusal: answer.refusal,
+        session: Session::of(answer.session),
+    }
+}
+
+#[no_mangle]
+pub unsafe extern "C" fn second_store(session: Session, record: *mut u8, record_len: usize) -> u8 {
+    second::store(session.fields(), lent_mut(record, record_len))
+}
+
+#[no_mangle]
+pub extern "C" fn second_set_limit(limits: Limits, ta_id: u32, limit: u32) -> Limited {
+    let answer = second::set_limit(second::Limits { of: limits.of }, ta_id, limit);
+    Limited {
+        refusal: answer.refusal,
+        limits: Limits {
+            of: answer.limits.of,
+        },
+    }
+}
+
+#[no_mangle]
+pub unsafe extern "C" fn second_row_count(
+    row: *const Session,
+    row_len: usize,
+    ta_id: u32,
+) -> Count {
+    let row: Vec<second::Fields> = lent(row, row_len).iter().map(Session::fields).collect();
+    let answer = second::row_count(&row, ta_id);
+    Count {
+        refusal: answer.refusal,
+        count: answer.count,
+    }
 }
 
 /// The row is copied in, and one session out: the second program's sessions are

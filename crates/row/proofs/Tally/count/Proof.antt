@@ -12,31 +12,26 @@ is-known-requires : tie.Need-is-known-requires
 is-known-requires c κs = search needs
 
 sub-k : tie.Need-sub-k
-sub-k c = numbered-is _ _ (sym (c .before .is-known .ensures) ∙ c .if3 .taken) .0
+sub-k c = numbered-is _ _ (sym (c .before .is-known .ensures) ∙ c .if2 .taken) .0
 
 cast-k : tie.Need-cast-k
 cast-k c = search needs
 
-array-read-t15 : tie.Need-array-read-t15
-array-read-t15 c = omega (arith, numbered-is _ _ (sym (c .before .is-known .ensures) ∙ c .if3 .taken))
+array-read-t11 : tie.Need-array-read-t11
+array-read-t11 c = omega (arith, numbered-is _ _ (sym (c .before .is-known .ensures) ∙ c .if2 .taken))
 
 returns : tie.Need-returns
 unfolding countIn
-returns c = simp (c .before .before .before .if1 .taken, c .before .before .if2 .taken, sym (c .before .is-known .ensures) ∙ c .if3 .taken, pick-true)
+returns c = simp (c .before .before .if1 .taken, sym (c .before .is-known .ensures) ∙ c .if2 .taken, pick-true)
 
 returns-2 : tie.Need-returns-2
 unfolding countIn
-returns-2 c = simp (c .before .before .before .if1 .taken, c .before .before .if2 .taken, sym (c .before .is-known .ensures) ∙ c .if3 .left, pick-true, pick-false)
+returns-2 c = simp (c .before .before .if1 .taken, sym (c .before .is-known .ensures) ∙ c .if2 .left, pick-true, pick-false)
 
 returns-3 : tie.Need-returns-3
 unfolding countIn
-returns-3 c = simp (c .before .if1 .taken, c .if2 .left, pick-true, pick-false)
-
-returns-4 : tie.Need-returns-4
-unfolding countIn
-returns-4 c = simp (c .if1 .left, pick-false)
+returns-3 c = simp (c .if1 .left, pick-false)
 
 pub count-spec : {M : Type 1} → statement M
 count-spec =
-    tie.close
-    (tie.spec is-known-requires sub-k cast-k array-read-t15 returns returns-2 returns-3 returns-4)
+    tie.close (tie.spec is-known-requires sub-k cast-k array-read-t11 returns returns-2 returns-3)
