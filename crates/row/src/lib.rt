@@ -48,9 +48,6 @@ pub struct Tally {
     pub counts: [u8; 13],
 }
 
-// How many sessions a row may have.
-pub const MOST: usize = 64;
-
 // The event of one session of the row, by what the pass over all of them found.
 pub fn event_in(
     s: Session,

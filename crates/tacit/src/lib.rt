@@ -27,6 +27,9 @@ use session::Permission;
 use session::Retry;
 use session::Session;
 
+// How many sessions a row may have.
+const ROW_MOST: usize = 64;
+
 #[no_mangle]
 pub extern "C" fn tacit_initialization(kept: &mut [u8], area: &[u8]) -> Answer
     ensures { λ r. ⌜ Carried (initialization (decoded (now (kept .entry))) (now (area .entry))) (now (kept .entry)) r (now (kept .exit)) ⌝ }
@@ -195,7 +198,7 @@ pub extern "C" fn tacit_set_limit(limits: Limits, ta_id: u32, limit: u32) -> Lim
 pub extern "C" fn tacit_row_count(row: &[Session], ta_id: u32) -> Count
     ensures { λ r. ⌜ r ≡ countOf (now (row .entry)) «ta_id» ⌝ }
 {
-    if (0 < row.len()) & (row.len() <= row::MOST) {
+    if (0 < row.len()) & (row.len() <= ROW_MOST) {
         let tally = row::tally_of(row);
         return tally.count(ta_id);
     }
@@ -214,7 +217,7 @@ pub extern "C" fn tacit_row_event(
 ) -> Answer
     ensures { λ r. ⌜ (r ≡ eventAt (now (row .entry)) at event limits (now (area .entry)) (length (now (room .entry))) .answer) × (now (row .exit) ≡ rowAfter (now (row .entry)) at event limits (now (area .entry)) (length (now (room .entry)))) × (now (room .exit) ≡ rowRoom (now (row .entry)) at event (now (room .entry))) ⌝ }
 {
-    if (at < row.len()) & (row.len() <= row::MOST) {
+    if (at < row.len()) & (row.len() <= ROW_MOST) {
         let tally = row::tally_of(row);
         let after = row::event_in(row[at], tally, event, limits, area, room);
         row[at] = after.session;
