@@ -1,5 +1,5 @@
 /*
- * tacit.h - application negotiation for one targeted LDP session
+ * tacit.h - application negotiation for targeted LDP sessions
  *
  * Targeted Application Capability (TAC, RFC 8223) and State Advertisement
  * Control (SAC, RFC 7473). The library reads the optional parameters of
