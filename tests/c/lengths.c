@@ -198,19 +198,33 @@ static void full_areas(void)
     CHECK(kinds(&record) == (TACIT_ALL_KINDS & ~TACIT_KIND_SET(8)));
 }
 
+enum { LARGEST_ROOM = 40 };
+
+static void fill_room(uint8_t *room, uint8_t *as_found)
+{
+    for (size_t i = 0; i < LARGEST_ROOM; i++)
+        room[i] = as_found[i] = (uint8_t)(0x5A + i);
+}
+
+/* A change to be written, with this much room: 17 octets and no other, or 8 and none. */
+static void expect_written(struct tacit_answer answer, size_t length, const uint8_t *room,
+                           const uint8_t *as_found)
+{
+    size_t written = length < 17 ? 0 : 17;
+    CHECK(answer.refusal == (length < 17 ? 8 : 0));
+    CHECK(answer.written == written);
+    CHECK(memcmp(room + written, as_found + written, LARGEST_ROOM - written) == 0);
+}
+
 static void rooms(void)
 {
-    for (size_t length = 0; length <= 40; length++) {
+    for (size_t length = 0; length <= LARGEST_ROOM; length++) {
         trying("a room of %zu octets", length);
-        uint8_t room[40], as_found[40];
-        for (size_t i = 0; i < sizeof room; i++)
-            room[i] = as_found[i] = (uint8_t)(0x5A + i);
+        uint8_t room[LARGEST_ROOM], as_found[LARGEST_ROOM];
+        fill_room(room, as_found);
         struct record record = opened(APP(4) | APP(7), dynamic_fec129);
         struct tacit_answer answer = local_change(&record, 5, true, room, length);
-        size_t written = length < 17 ? 0 : 17;
-        CHECK(answer.refusal == (length < 17 ? 8 : 0));
-        CHECK(answer.written == written);
-        CHECK(memcmp(room + written, as_found + written, sizeof room - written) == 0);
+        expect_written(answer, length, room, as_found);
         /* Neither a mismatch nor a change that is not written touches it. */
         memcpy(as_found, room, sizeof room);
         answer = local_change(&record, 7, false, room, length);
@@ -225,18 +239,14 @@ static void rooms(void)
 
 static void rooms_in_rows(void)
 {
-    for (size_t length = 0; length <= 40; length++) {
+    for (size_t length = 0; length <= LARGEST_ROOM; length++) {
         trying("a room of %zu octets", length);
-        uint8_t room[40], as_found[40];
-        for (size_t i = 0; i < sizeof room; i++)
-            room[i] = as_found[i] = (uint8_t)(0x5A + i);
+        uint8_t room[LARGEST_ROOM], as_found[LARGEST_ROOM];
+        fill_room(room, as_found);
         struct record record = opened(APP(4) | APP(7), dynamic_fec129);
         struct sessions row = {.at = {session_in(&record)}, .length = 1};
         struct tacit_answer answer = row_local_change(&row, 0, 5, true, room, length);
-        size_t written = length < 17 ? 0 : 17;
-        CHECK(answer.refusal == (length < 17 ? 8 : 0));
-        CHECK(answer.written == written);
-        CHECK(memcmp(room + written, as_found + written, sizeof room - written) == 0);
+        expect_written(answer, length, room, as_found);
     }
 }
 

@@ -1,5 +1,5 @@
-// A row of sessions: limits on how many use an application, and an event of one session among the others. What is here goes by value; the functions that
-// are lent a row stand in `tally_of` and in crate tacit.
+// A row of sessions: limits on how many use an application, and an event of one session among the others. All of it goes by value but for `tally_of`,
+// which is lent the row, as the C calls are.
 ghost use mathlib.Core.Path.{_≡_};
 ghost use lib.ListN.{length};
 ghost use Rattle.session.specs.Events.{refused};
