@@ -1,6 +1,5 @@
 pub mod SoundMeans
-pub mod StaysSound
-pub mod Unlimited
-pub mod TurnedAway
-pub mod PermittedMeans
-pub mod Determined
+pub mod FlagsRaised
+pub mod Made
+pub mod Alike
+pub mod View

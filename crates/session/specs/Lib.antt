@@ -1,5 +1,7 @@
 pub mod Session
+pub mod With
 pub mod Creation
-pub mod Events
 pub mod Limits
+pub mod Decisions
+pub mod Events
 pub mod Questions

@@ -1,69 +1,108 @@
--- One targeted session in numbers, the stored record's fields: what its state and flags say, when it is sound, what it permits, and the sessions
--- that events make of it. Assumes nothing.
-use Prim.Native.Nat.{ℕ, _+_, _-_, _%_, _^_, _≤_, _<_}
+-- One targeted session in numbers, the stored record's fields: what its state and flags say, when it is sound, and what it permits. Assumes nothing.
+use Prim.Native.Nat.{ℕ, _+_, _-_, _^_, _≤_, _<_}
 use mathlib.Core.Path.{_≡_}
 use mathlib.Core.Bool.{Bool, true, false, not, _&&_}
 use lib.Dec.{eqb, leb}
 use Rattle.choice.specs.Pick.{pick, only, unless}
-use Rattle.sets.specs.Set.{has, union, common, minus, empty, below, switched}
-use Rattle.kinds.specs.Kinds.{opens, controlled, opened, disables, Some}
+use Rattle.sets.specs.Set.{has, one, common, minus, empty, below}
+use Rattle.kinds.specs.Kinds.{applicationCount, kindCount, appCount, allKinds, opens, controlled, opened, disables, Some}
 use Rattle.session.specs.declared.Session.{Session}
 
--- "state (1: Ready 0, Open 1, Held 2, Gone 3)"
+-- "state (1: Ready 0, Open 1, Held 2, Gone 3)"; a session that is none has no state of these
+abbrev pub stateReady : ℕ
+stateReady = 0
+
+abbrev pub stateOpen : ℕ
+stateOpen = 1
+
+abbrev pub stateHeld : ℕ
+stateHeld = 2
+
+abbrev pub stateGone : ℕ
+stateGone = 3
+
+abbrev pub noState : ℕ
+noState = 255
+
 abbrev pub isReady : Session → Bool
-isReady s = eqb (s .state) 0
+isReady s = eqb (s .state) stateReady
 
 abbrev pub isOpen : Session → Bool
-isOpen s = eqb (s .state) 1
+isOpen s = eqb (s .state) stateOpen
 
 abbrev pub isHeld : Session → Bool
-isHeld s = eqb (s .state) 2
+isHeld s = eqb (s .state) stateHeld
 
 abbrev pub isGone : Session → Bool
-isGone s = eqb (s .state) 3
+isGone s = eqb (s .state) stateGone
 
 -- "Flags from bit 0: initiating, active, uses TAC, drops, in force, peer dynamic, Hello recorded, zero"
+abbrev pub initiatingBit : ℕ
+initiatingBit = 0
+
+abbrev pub activeBit : ℕ
+activeBit = 1
+
+abbrev pub usesTacBit : ℕ
+usesTacBit = 2
+
+abbrev pub dropsBit : ℕ
+dropsBit = 3
+
+abbrev pub inForceBit : ℕ
+inForceBit = 4
+
+abbrev pub dynamicBit : ℕ
+dynamicBit = 5
+
+abbrev pub recordedBit : ℕ
+recordedBit = 6
+
+abbrev pub flagCount : ℕ
+flagCount = 7
+
 abbrev pub initiating : Session → Bool
-initiating s = has (s .flags) 0
+initiating s = has (s .flags) initiatingBit
 
 abbrev pub active : Session → Bool
-active s = has (s .flags) 1
+active s = has (s .flags) activeBit
 
 abbrev pub usesTac : Session → Bool
-usesTac s = has (s .flags) 2
+usesTac s = has (s .flags) usesTacBit
 
 abbrev pub drops : Session → Bool
-drops s = has (s .flags) 3
+drops s = has (s .flags) dropsBit
 
 abbrev pub inForce : Session → Bool
-inForce s = has (s .flags) 4
+inForce s = has (s .flags) inForceBit
 
 abbrev pub dynamic : Session → Bool
-dynamic s = has (s .flags) 5
+dynamic s = has (s .flags) dynamicBit
 
 abbrev pub recorded : Session → Bool
-recorded s = has (s .flags) 6
+recorded s = has (s .flags) recordedBit
 
--- the same as sets of flags
-abbrev pub forceFlag : ℕ
-forceFlag = 16
+-- what leaving Open clears of the flags: "the force and the peer's dynamic flag"; Gone also "forgets the recorded Hello"
+abbrev pub clearedOutOfOpen : ℕ
+clearedOutOfOpen = one inForceBit + one dynamicBit
 
-abbrev pub dynamicFlag : ℕ
-dynamicFlag = 32
-
-abbrev pub recordedFlag : ℕ
-recordedFlag = 64
+abbrev pub clearedInGone : ℕ
+clearedInGone = clearedOutOfOpen + one recordedBit
 
 -- the applications both enabled and listed
 abbrev pub negotiated : Session → ℕ
 negotiated s = common (s .enabled) (s .listed)
 
+-- "in force with no application both enabled and listed"
+unfoldable pub nothingCommon : Session → Bool
+nothingCommon s = inForce s && empty (negotiated s)
+
 -- ---- Sound means: each rule a test
 -- "state as above; all spare bits 0": 7 flags, 13 applications, 10 kinds, 4 Apps
 unfoldable pub spareZero : Session → Bool
 spareZero s =
-    leb (s .state) 3
-    && (below 7 (s .flags) && (below 13 (s .enabled) && (below 13 (s .listed) && (below 10 (s .protects) && below 4 (s .disabled)))))
+    leb (s .state) stateGone
+    && (below flagCount (s .flags) && (below applicationCount (s .enabled) && (below applicationCount (s .listed) && (below kindCount (s .protects) && below appCount (s .disabled)))))
 
 -- "in force only in Open with TAC used and a common application"
 unfoldable pub forceSound : Session → Bool
@@ -99,12 +138,12 @@ sound s =
 
 -- the same as facts, each rule by itself
 pub record Sound (s : Session) : Type 0 where
-  pub state : s .state ≤ 3
-  pub flags : s .flags < 2 ^ 7
-  pub enabled : s .enabled < 2 ^ 13
-  pub listed : s .listed < 2 ^ 13
-  pub protects : s .protects < 2 ^ 10
-  pub disabled : s .disabled < 2 ^ 4
+  pub state : s .state ≤ stateGone
+  pub flags : s .flags < 2 ^ flagCount
+  pub enabled : s .enabled < 2 ^ applicationCount
+  pub listed : s .listed < 2 ^ applicationCount
+  pub protects : s .protects < 2 ^ kindCount
+  pub disabled : s .disabled < 2 ^ appCount
   pub force-open : inForce s ≡ true → isOpen s ≡ true
   pub force-uses : inForce s ≡ true → usesTac s ≡ true
   pub force-common : inForce s ≡ true → empty (negotiated s) ≡ false
@@ -119,9 +158,6 @@ pub record Sound (s : Session) : Type 0 where
   pub gone-unrecorded : isGone s ≡ true → recorded s ≡ false
 
 -- ---- what it permits
-abbrev pub allKinds : ℕ
-allKinds = 1023
-
 -- "Permitted, when Open: a kind that SAC has not disabled and, where negotiation is in force, that some application both enabled and listed
 -- maps to. Not Open: none"
 unfoldable pub permitted : Session → ℕ
@@ -131,98 +167,13 @@ permitted s = pick (isOpen s) (minus (pick (inForce s) (opened (s .protects) (ne
 pub record Negotiates (s : Session) (k : ℕ) : Type 0 where
   pub number : ℕ
   pub least : 1 ≤ number
-  pub most : number ≤ 13
+  pub most : number ≤ applicationCount
   pub is-enabled : has (s .enabled) (number - 1) ≡ true
   pub is-listed : has (s .listed) (number - 1) ≡ true
   pub maps : has (opens (s .protects) number) k ≡ true
 
 pub record Permitted (s : Session) (k : ℕ) : Type 0 where
   pub is-open : isOpen s ≡ true
-  pub kind : k ≤ 9
-  pub not-disabled : Some controlled 4 (s .disabled) k → ⊥
+  pub kind : k < kindCount
+  pub not-disabled : Some controlled appCount (s .disabled) k → ⊥
   pub negotiates : inForce s ≡ true → Negotiates s k
-
--- ---- the sessions that events make of it
--- out of Open, in a state: "clears the peer's list, the disabled kinds, the force and the peer's dynamic flag"; also other flags where named
-abbrev pub left : Session → ℕ → ℕ → ℕ → Session
-left s state off hello =
-    record {
-      state = state;
-      flags = minus (s .flags) off;
-      disabled = 0;
-      enabled = s .enabled;
-      listed = 0;
-      protects = s .protects;
-      hello = hello;
-      next = s .next;
-    }
-
--- the flags that only an Open session has, and with them Hello recorded
-abbrev pub openFlags : ℕ
-openFlags = 48
-
-abbrev pub goneFlags : ℕ
-goneFlags = 112
-
--- the session Ready again: connection closed, or the mismatch of a passive end
-abbrev pub backToReady : Session → Session
-backToReady s = left s 0 openFlags (s .hello)
-
--- "Mismatch: an active end goes to Held, except that an initiating one set to drop goes to Gone and forgets the recorded Hello; a passive end
--- goes to Ready"
-unfoldable pub mismatched : Session → Session
-mismatched s = pick (active s) (pick (leavesGone s) (left s 3 goneFlags 0) (left s 2 openFlags (s .hello))) (backToReady s)
-
--- "in force with no application both enabled and listed"
-unfoldable pub apart : Session → Bool
-apart s = inForce s && empty (negotiated s)
-
--- "Held becomes Ready"
-unfoldable pub woken : ℕ → ℕ
-woken state = pick (eqb state 2) 0 state
-
--- a Hello recorded, in a state
-abbrev pub greeted : Session → ℕ → ℕ → Session
-greeted s state number =
-    record {
-      state = state;
-      flags = union (s .flags) recordedFlag;
-      disabled = s .disabled;
-      enabled = s .enabled;
-      listed = s .listed;
-      protects = s .protects;
-      hello = number;
-      next = s .next;
-    }
-
--- alike in all but the enabled applications and the next message number
-abbrev pub besides : Session → ℕ → ℕ → Session
-besides s enabled next =
-    record {
-      state = s .state;
-      flags = s .flags;
-      disabled = s .disabled;
-      enabled = enabled;
-      listed = s .listed;
-      protects = s .protects;
-      hello = s .hello;
-      next = next;
-    }
-
--- one application set on or off, "and a Held session becomes Ready"
-abbrev pub changed : Session → ℕ → Bool → Session
-changed s n on =
-    record {
-      state = woken (s .state);
-      flags = s .flags;
-      disabled = s .disabled;
-      enabled = switched 13 (s .enabled) n on;
-      listed = s .listed;
-      protects = s .protects;
-      hello = s .hello;
-      next = s .next;
-    }
-
--- "The number then goes up by one; after 4,294,967,295 comes 0"
-abbrev pub numbered : Session → Session
-numbered s = besides s (s .enabled) ((s .next + 1) % 2 ^ 32)

@@ -1,6 +1,6 @@
 // Capability message.
 ghost use mathlib.Core.Path.{_≡_};
-ghost use Rattle.session.specs.Events.{listAfter, flagsAfter, capable, capability};
+ghost use Rattle.session.specs.Events.{listAfter, flagsAfter, afterCapability, step, Capability};
 use crate::After;
 use crate::Session;
 use area::Reading;
@@ -30,8 +30,8 @@ impl Session {
     }
 
     // With what the area's TAC and SAC say, before any mismatch is looked for.
-    fn capable(mut self, area: &[u8], found: Reading) -> Session
-        ensures { λ r. ⌜ r ≡ capable self (now (area .entry)) found ⌝ }
+    fn after_capability(mut self, area: &[u8], found: Reading) -> Session
+        ensures { λ r. ⌜ r ≡ afterCapability self (now (area .entry)) found ⌝ }
     {
         let tac = found.tac;
         let sac = found.sac;
@@ -51,15 +51,18 @@ impl Session {
 
     // Capability message received (Open only).
     pub fn capability(self, area: &[u8]) -> After
-        ensures { λ r. ⌜ r ≡ capability self (now (area .entry)) ⌝ }
+        ensures { λ r. ⌜ r ≡ step self (Capability (now (area .entry))) ⌝ }
     {
         if self.sound() {
             if self.is_open() {
                 let found = area::read_area(area);
-                return self.heard(found, self.settled(self.capable(area, found)));
+                if found.refusal == refusals::NOT_REFUSED {
+                    return self.negotiate(self.after_capability(area, found));
+                }
+                return self.refused(found.refusal);
             }
-            return self.refused(7);
+            return self.refused(refusals::WRONG_STATE);
         }
-        self.refused(10)
+        self.refused(refusals::NOT_SOUND)
     }
 }

@@ -1,20 +1,20 @@
 // The connection closed.
 ghost use mathlib.Core.Path.{_≡_};
-ghost use Rattle.session.specs.Events.{closed};
+ghost use Rattle.session.specs.Events.{step, Closed};
 use crate::After;
 use crate::Session;
 
 impl Session {
     // Connection closed (Open only): Ready.
     pub fn closed(self) -> After
-        ensures { λ r. ⌜ r ≡ closed self ⌝ }
+        ensures { λ r. ⌜ r ≡ step self Closed ⌝ }
     {
         if self.sound() {
             if self.is_open() {
-                return self.answered(self.left(Self::READY, Self::OF_OPEN, self.hello), 0, 0);
+                return self.done(self.back_to_ready());
             }
-            return self.refused(7);
+            return self.refused(refusals::WRONG_STATE);
         }
-        self.refused(10)
+        self.refused(refusals::NOT_SOUND)
     }
 }

@@ -3,12 +3,13 @@ ghost use mathlib.Core.Path.{_≡_};
 ghost use Rattle.session.specs.Creation.{roleFlags, created};
 use crate::Created;
 use crate::Session;
+use kinds::TaId;
 
 impl Session {
     // Sets of applications 1 to 13, and of kinds 0 to 9, are below these.
-    pub const APPLICATIONS_LIMIT: u32 = 8192;
+    pub const APPLICATIONS_LIMIT: u32 = 1 << TaId::COUNT;
 
-    pub const KINDS_LIMIT: u32 = 1024;
+    pub const KINDS_LIMIT: u32 = 1 << kinds::KIND_COUNT;
 
     // What is settled at creation, as flags.
     fn roles(initiating: bool, active: bool, uses_tac: bool, drops: bool) -> u8
@@ -45,6 +46,6 @@ impl Session {
                 next: first,
             });
         }
-        Created::Refused(6)
+        Created::Refused(refusals::OUT_OF_RANGE)
     }
 }

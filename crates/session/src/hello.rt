@@ -1,7 +1,7 @@
 // A Hello with its sequence number.
 ghost use mathlib.Core.Path.{_≡_};
-ghost use Rattle.session.specs.Session.{greeted};
-ghost use Rattle.session.specs.Events.{hello};
+ghost use Rattle.session.specs.With.{greeted};
+ghost use Rattle.session.specs.Events.{step, Hello};
 use crate::After;
 use crate::Session;
 
@@ -16,21 +16,22 @@ impl Session {
         self
     }
 
+    // Hello received, in any state.
     pub fn hello(self, number: u32) -> After
-        ensures { λ r. ⌜ r ≡ hello self number ⌝ }
+        ensures { λ r. ⌜ r ≡ step self (Hello number) ⌝ }
     {
         if self.sound() {
             if self.is_gone() {
-                return self.answered(self.greeted(Self::READY, number), 0, 0);
+                return self.done(self.greeted(Self::READY, number));
             }
             if !self.recorded() {
-                return self.answered(self.greeted(self.state, number), 0, 0);
+                return self.done(self.greeted(self.state, number));
             }
             if self.hello < number {
-                return self.answered(self.greeted(self.woken(), number), 0, 0);
+                return self.done(self.greeted(self.held_to_ready(), number));
             }
             return self.unchanged();
         }
-        self.refused(10)
+        self.refused(refusals::NOT_SOUND)
     }
 }

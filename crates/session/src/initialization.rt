@@ -3,7 +3,7 @@ ghost use mathlib.Core.Path.{_≡_};
 ghost use mathlib.Core.Bool.{true};
 ghost use Rattle.choice.specs.Pick.{pick};
 ghost use Rattle.lists.specs.Tac.{tacList};
-ghost use Rattle.session.specs.Events.{takesTac, opening, initialization};
+ghost use Rattle.session.specs.Events.{takesTac, afterInitialization, step, Initialization};
 use crate::After;
 use crate::Session;
 use area::Reading;
@@ -27,8 +27,8 @@ impl Session {
     }
 
     // Open by what the area holds, before any mismatch is looked for.
-    pub(crate) fn opening(mut self, area: &[u8], found: Reading) -> Session
-        ensures { λ r. ⌜ r ≡ opening self (now (area .entry)) found ⌝ }
+    fn after_initialization(mut self, area: &[u8], found: Reading) -> Session
+        ensures { λ r. ⌜ r ≡ afterInitialization self (now (area .entry)) found ⌝ }
     {
         let takes = self.takes_tac(found);
         let tac = found.tac;
@@ -41,10 +41,20 @@ impl Session {
         self
     }
 
-    // Initialization received (Ready only): no application is at its limit.
-    pub fn initialization(self, area: &[u8]) -> After
-        ensures { λ r. ⌜ r ≡ initialization self (now (area .entry)) ⌝ }
+    // Initialization received (Ready only), told the applications that are below their limit.
+    pub fn initialization(self, area: &[u8], below_limit: u16) -> After
+        ensures { λ r. ⌜ r ≡ step self (Initialization (now (area .entry)) «below_limit») ⌝ }
     {
-        self.limited_initialization(area, Self::ALL_APPLICATIONS)
+        if self.sound() {
+            if self.is_ready() {
+                let found = area::read_area(area);
+                if found.refusal == refusals::NOT_REFUSED {
+                    return self.admit(self.after_initialization(area, found), below_limit);
+                }
+                return self.refused(found.refusal);
+            }
+            return self.refused(refusals::WRONG_STATE);
+        }
+        self.refused(refusals::NOT_SOUND)
     }
 }

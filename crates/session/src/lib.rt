@@ -3,13 +3,14 @@
 ghost use mathlib.Core.Path.{_≡_};
 ghost use Prim.Native.Nat.{_<_};
 ghost use Rattle.sets.specs.Set.{minus};
-ghost use Rattle.session.specs.Session.{isReady, isOpen, isHeld, isGone, initiating, active, usesTac, drops, inForce, dynamic, recorded, leavesGone, negotiated, apart, woken};
+ghost use Rattle.session.specs.Session.{isReady, isOpen, isHeld, isGone, initiating, active, usesTac, drops, inForce, dynamic, recorded, leavesGone, negotiated, nothingCommon};
+ghost use Rattle.session.specs.With.{heldToReady, noSession};
 ghost use Rattle.session.specs.Creation.{raised};
 
-mod answers;
 mod capability;
 mod closed;
 mod creation;
+mod decisions;
 mod hello;
 mod initialization;
 mod limits;
@@ -18,6 +19,7 @@ mod mismatch;
 mod permitted;
 mod questions;
 mod sound;
+mod unknown;
 
 #[repr(C)]
 pub struct Session {
@@ -84,26 +86,60 @@ impl Session {
 
     const GONE: u8 = 3;
 
-    // Sets of flags.
-    const INITIATING: u16 = 1;
+    const NO_STATE: u8 = 255;
 
-    const ACTIVE: u16 = 2;
+    // Flags by their bits.
+    const INITIATING_BIT: u16 = 0;
 
-    const USES_TAC: u16 = 4;
+    const ACTIVE_BIT: u16 = 1;
 
-    const DROPS: u16 = 8;
+    const USES_TAC_BIT: u16 = 2;
 
-    const IN_FORCE: u16 = 16;
+    const DROPS_BIT: u16 = 3;
 
-    const DYNAMIC: u16 = 32;
+    const IN_FORCE_BIT: u16 = 4;
 
-    const RECORDED: u16 = 64;
+    const DYNAMIC_BIT: u16 = 5;
 
-    // In force and peer dynamic: what only an Open session has.
-    const OF_OPEN: u16 = 48;
+    const RECORDED_BIT: u16 = 6;
 
-    // Those and Hello recorded: what a Gone session has not.
-    const NOT_OF_GONE: u16 = 112;
+    const FLAG_COUNT: u16 = 7;
+
+    // The same as sets of flags.
+    const INITIATING: u16 = 1 << Self::INITIATING_BIT;
+
+    const ACTIVE: u16 = 1 << Self::ACTIVE_BIT;
+
+    const USES_TAC: u16 = 1 << Self::USES_TAC_BIT;
+
+    const DROPS: u16 = 1 << Self::DROPS_BIT;
+
+    const IN_FORCE: u16 = 1 << Self::IN_FORCE_BIT;
+
+    const DYNAMIC: u16 = 1 << Self::DYNAMIC_BIT;
+
+    const RECORDED: u16 = 1 << Self::RECORDED_BIT;
+
+    // What leaving Open clears of the flags, and what Gone clears.
+    const CLEARED_OUT_OF_OPEN: u16 = Self::IN_FORCE + Self::DYNAMIC;
+
+    const CLEARED_IN_GONE: u16 = Self::CLEARED_OUT_OF_OPEN + Self::RECORDED;
+
+    // What stands where there is no session; it is not sound.
+    pub fn none() -> Session
+        ensures { λ r. ⌜ r ≡ noSession ⌝ }
+    {
+        Session {
+            state: Self::NO_STATE,
+            flags: 0,
+            disabled: 0,
+            enabled: 0,
+            listed: 0,
+            protects: 0,
+            hello: 0,
+            next: 0,
+        }
+    }
 
     fn is_ready(self) -> bool
         ensures { λ r. ⌜ r ≡ isReady self ⌝ }
@@ -132,43 +168,43 @@ impl Session {
     fn initiating(self) -> bool
         ensures { λ r. ⌜ r ≡ initiating self ⌝ }
     {
-        sets::has(self.flags as u16, 0)
+        sets::has(self.flags as u16, Self::INITIATING_BIT)
     }
 
     fn active(self) -> bool
         ensures { λ r. ⌜ r ≡ active self ⌝ }
     {
-        sets::has(self.flags as u16, 1)
+        sets::has(self.flags as u16, Self::ACTIVE_BIT)
     }
 
     fn uses_tac(self) -> bool
         ensures { λ r. ⌜ r ≡ usesTac self ⌝ }
     {
-        sets::has(self.flags as u16, 2)
+        sets::has(self.flags as u16, Self::USES_TAC_BIT)
     }
 
     fn drops(self) -> bool
         ensures { λ r. ⌜ r ≡ drops self ⌝ }
     {
-        sets::has(self.flags as u16, 3)
+        sets::has(self.flags as u16, Self::DROPS_BIT)
     }
 
     fn in_force(self) -> bool
         ensures { λ r. ⌜ r ≡ inForce self ⌝ }
     {
-        sets::has(self.flags as u16, 4)
+        sets::has(self.flags as u16, Self::IN_FORCE_BIT)
     }
 
     fn dynamic(self) -> bool
         ensures { λ r. ⌜ r ≡ dynamic self ⌝ }
     {
-        sets::has(self.flags as u16, 5)
+        sets::has(self.flags as u16, Self::DYNAMIC_BIT)
     }
 
     fn recorded(self) -> bool
         ensures { λ r. ⌜ r ≡ recorded self ⌝ }
     {
-        sets::has(self.flags as u16, 6)
+        sets::has(self.flags as u16, Self::RECORDED_BIT)
     }
 
     // Initiating and set to drop: a mismatch takes an active end to Gone.
@@ -186,15 +222,15 @@ impl Session {
     }
 
     // In force with no application both enabled and listed.
-    fn apart(self) -> bool
-        ensures { λ r. ⌜ r ≡ apart self ⌝ }
+    fn nothing_common(self) -> bool
+        ensures { λ r. ⌜ r ≡ nothingCommon self ⌝ }
     {
         self.in_force() & (self.negotiated() == 0)
     }
 
     // The state, Held as Ready.
-    fn woken(self) -> u8
-        ensures { λ r. ⌜ r ≡ woken (self .state) ⌝ }
+    fn held_to_ready(self) -> u8
+        ensures { λ r. ⌜ r ≡ heldToReady self ⌝ }
     {
         if self.is_held() {
             return Self::READY;

@@ -1,8 +1,8 @@
 // Local change of one application, on or off.
 ghost use mathlib.Core.Path.{_≡_};
-ghost use lib.ListN.{length};
-ghost use Rattle.session.specs.Session.{changed, numbered};
-ghost use Rattle.session.specs.Events.{already, sent, writing, localChange, roomAfter};
+ghost use Rattle.session.specs.With.{changed, withNextNumber};
+ghost use Rattle.session.specs.Decisions.{settled};
+ghost use Rattle.session.specs.Events.{already, writing, step, LocalChange};
 use crate::After;
 use crate::Session;
 use kinds::TaId;
@@ -20,49 +20,39 @@ impl Session {
     fn changed(mut self, app: TaId, on: bool) -> Session
         ensures { λ r. ⌜ r ≡ changed self (app .0) on ⌝ }
     {
-        let state = self.woken();
+        let state = self.held_to_ready();
         self.state = state;
         self.enabled = app.switched(self.enabled, on);
         self
     }
 
     // The next message number; after 4,294,967,295 comes 0.
-    fn numbered(mut self) -> Session
-        ensures { λ r. ⌜ r ≡ numbered self ⌝ }
+    pub(crate) fn with_next_number(mut self) -> Session
+        ensures { λ r. ⌜ r ≡ withNextNumber self ⌝ }
     {
         self.next = std::num::wrapping_add_u32(self.next, 1);
         self
     }
 
-    // A message is written, unless no common application remains: that is a mismatch.
-    fn sent(self, after: Session) -> After
-        ensures { λ r. ⌜ r ≡ sent self after ⌝ }
-    {
-        if after.apart() {
-            return self.answered(after.mismatched(), 2, 0);
-        }
-        self.answered(after.numbered(), 0, 17)
-    }
-
     // In Open with TAC used a change is written; any other is only set.
     fn writing(self, after: Session, room: usize) -> After
-        ensures { λ r. ⌜ r ≡ writing self after room ⌝ }
+        ensures { λ r. ⌜ r ≡ settled self (writing self after room) ⌝ }
     {
         if self.is_open() & self.uses_tac() {
             if self.dynamic() {
-                if message::LENGTH <= room {
-                    return self.sent(after);
+                if message::CHANGE_LENGTH <= room {
+                    return self.send(after, message::CHANGE_LENGTH as u16);
                 }
-                return self.refused(8);
+                return self.refused(refusals::NO_ROOM);
             }
-            return self.refused(9);
+            return self.refused(refusals::PEER_NOT_DYNAMIC);
         }
-        self.answered(after, 0, 0)
+        self.done(after)
     }
 
-    // The change, told how many octets of room there are.
-    fn change(self, app: TaId, on: bool, room: usize) -> After
-        ensures { λ r. ⌜ r ≡ localChange self (app .0) on room ⌝ }
+    // The change, told how many octets of room there are; what it writes is put there by `message::write`.
+    pub fn local_change(self, app: TaId, on: bool, room: usize) -> After
+        ensures { λ r. ⌜ r ≡ step self (LocalChange (app .0) on room) ⌝ }
     {
         if self.sound() {
             if app.is_known() {
@@ -71,20 +61,8 @@ impl Session {
                 }
                 return self.writing(self.changed(app, on), room);
             }
-            return self.refused(6);
+            return self.refused(refusals::OUT_OF_RANGE);
         }
-        self.refused(10)
-    }
-
-    // The change, with its message in the room where one is written.
-    pub fn local_change(self, app: TaId, on: bool, room: &mut [u8]) -> After
-        ensures { λ r. ⌜ (r ≡ localChange self (app .0) on (length (now (room .entry)))) × (now (room .exit) ≡ roomAfter self (app .0) on (now (room .entry))) ⌝ }
-    {
-        let after = self.change(app, on, room.len());
-        if 0 < after.answer.written {
-            message::write(room, self.next, app, on);
-            return after;
-        }
-        after
+        self.refused(refusals::NOT_SOUND)
     }
 }

@@ -1,14 +1,14 @@
 // A mismatch, found by ourselves or told by the peer: one effect.
 ghost use mathlib.Core.Path.{_≡_};
-ghost use Rattle.session.specs.Session.{left, mismatched};
-ghost use Rattle.session.specs.Events.{mismatch};
+ghost use Rattle.session.specs.With.{outOfOpen, backToReady, mismatched};
+ghost use Rattle.session.specs.Events.{step, Mismatch};
 use crate::After;
 use crate::Session;
 
 impl Session {
     // Out of Open, in a state, without some flags.
-    pub(crate) fn left(mut self, state: u8, off: u16, hello: u32) -> Session
-        ensures { λ r. ⌜ r ≡ left self state off hello ⌝ }
+    fn out_of_open(mut self, state: u8, off: u16, hello: u32) -> Session
+        ensures { λ r. ⌜ r ≡ outOfOpen self state off hello ⌝ }
     {
         self.state = state;
         self.flags = crate::lowered(self.flags, off);
@@ -18,29 +18,36 @@ impl Session {
         self
     }
 
+    // Ready again: the connection closed, or the mismatch of a passive end.
+    pub(crate) fn back_to_ready(self) -> Session
+        ensures { λ r. ⌜ r ≡ backToReady self ⌝ }
+    {
+        self.out_of_open(Self::READY, Self::CLEARED_OUT_OF_OPEN, self.hello)
+    }
+
     // The session after a mismatch.
     pub(crate) fn mismatched(self) -> Session
         ensures { λ r. ⌜ r ≡ mismatched self ⌝ }
     {
         if self.active() {
             if self.leaves_gone() {
-                return self.left(Self::GONE, Self::NOT_OF_GONE, 0);
+                return self.out_of_open(Self::GONE, Self::CLEARED_IN_GONE, 0);
             }
-            return self.left(Self::HELD, Self::OF_OPEN, self.hello);
+            return self.out_of_open(Self::HELD, Self::CLEARED_OUT_OF_OPEN, self.hello);
         }
-        self.left(Self::READY, Self::OF_OPEN, self.hello)
+        self.back_to_ready()
     }
 
     // Mismatch notification received (Ready or Open).
     pub fn mismatch(self) -> After
-        ensures { λ r. ⌜ r ≡ mismatch self ⌝ }
+        ensures { λ r. ⌜ r ≡ step self Mismatch ⌝ }
     {
         if self.sound() {
             if self.is_ready() | self.is_open() {
-                return self.answered(self.mismatched(), 2, 0);
+                return self.as_mismatch(self);
             }
-            return self.refused(7);
+            return self.refused(refusals::WRONG_STATE);
         }
-        self.refused(10)
+        self.refused(refusals::NOT_SOUND)
     }
 }

@@ -4,8 +4,6 @@ ghost use Rattle.session.specs.Session.{permitted};
 use crate::Session;
 
 impl Session {
-    const ALL_KINDS: u16 = 1023;
-
     // The permitted kinds of a session, sound or not.
     pub(crate) fn permitted(self) -> u16
         ensures { λ r. ⌜ r ≡ permitted self ⌝ }
@@ -15,7 +13,7 @@ impl Session {
             if self.in_force() {
                 return sets::minus(kinds::opened(self.negotiated(), self.protects), disabled);
             }
-            return sets::minus(Self::ALL_KINDS, disabled);
+            return sets::minus(kinds::ALL_KINDS, disabled);
         }
         0
     }

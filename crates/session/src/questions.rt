@@ -7,9 +7,7 @@ use crate::Retry;
 use crate::Session;
 
 impl Session {
-    const LAST_KIND: u32 = 9;
-
-    const NEVER: u16 = 65535;
+    const INTERVAL_IN_HELD: u16 = 65535;
 
     // The set of the kinds that may be sent.
     pub fn permitted_kinds(self) -> Kinds
@@ -17,12 +15,12 @@ impl Session {
     {
         if self.sound() {
             return Kinds {
-                refusal: 0,
+                refusal: refusals::NOT_REFUSED,
                 kinds: self.permitted(),
             };
         }
         Kinds {
-            refusal: 10,
+            refusal: refusals::NOT_SOUND,
             kinds: 0,
         }
     }
@@ -32,25 +30,25 @@ impl Session {
         ensures { λ r. ⌜ r ≡ permission self kind ⌝ }
     {
         if self.sound() {
-            if kind <= Self::LAST_KIND {
+            if kind < kinds::KIND_COUNT {
                 if sets::has(self.permitted(), kind as u16) {
                     return Permission {
-                        refusal: 0,
+                        refusal: refusals::NOT_REFUSED,
                         permitted: 1,
                     };
                 }
                 return Permission {
-                    refusal: 0,
+                    refusal: refusals::NOT_REFUSED,
                     permitted: 0,
                 };
             }
             return Permission {
-                refusal: 6,
+                refusal: refusals::OUT_OF_RANGE,
                 permitted: 0,
             };
         }
         Permission {
-            refusal: 10,
+            refusal: refusals::NOT_SOUND,
             permitted: 0,
         }
     }
@@ -62,17 +60,17 @@ impl Session {
         if self.sound() {
             if self.is_held() {
                 return Retry {
-                    refusal: 0,
-                    interval: Self::NEVER,
+                    refusal: refusals::NOT_REFUSED,
+                    interval: Self::INTERVAL_IN_HELD,
                 };
             }
             return Retry {
-                refusal: 0,
+                refusal: refusals::NOT_REFUSED,
                 interval: 0,
             };
         }
         Retry {
-            refusal: 10,
+            refusal: refusals::NOT_SOUND,
             interval: 0,
         }
     }

@@ -2,16 +2,27 @@
 ghost use mathlib.Core.Path.{_≡_};
 ghost use Rattle.session.specs.Session.{spareZero, forceSound, listedSound, openSound, helloSound, heldSound, goneSound, sound};
 use crate::Session;
+use kinds::SacApp;
+use kinds::TaId;
 
 impl Session {
+    // Sets with no spare bit are below these.
+    const FLAGS_END: u8 = 1 << Self::FLAG_COUNT;
+
+    const APPLICATIONS_END: u16 = 1 << TaId::COUNT;
+
+    const KINDS_END: u16 = 1 << kinds::KIND_COUNT;
+
+    const APPS_END: u8 = 1 << SacApp::COUNT;
+
     // The state is one of the four, and no spare bit is set.
     fn spare_zero(self) -> bool
         ensures { λ r. ⌜ r ≡ spareZero self ⌝ }
     {
         (self.state <= Self::GONE)
-            & ((self.flags < 128)
-                & ((self.enabled < 8192)
-                    & ((self.listed < 8192) & ((self.protects < 1024) & (self.disabled < 16)))))
+            & ((self.flags < Self::FLAGS_END)
+                & ((self.enabled < Self::APPLICATIONS_END)
+                    & ((self.listed < Self::APPLICATIONS_END) & ((self.protects < Self::KINDS_END) & (self.disabled < Self::APPS_END)))))
     }
 
     // In force only in Open with TAC used and a common application.

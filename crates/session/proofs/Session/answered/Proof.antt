@@ -1,5 +1,5 @@
 -- `Session::answered` meets its contract: by what its calls promise. Assumes nothing.
-use Rattle.session.specs.Events.{answered}
+use Rattle.session.specs.Decisions.{answered}
 use borrow.Author.Needs.{needs}
 use Rattle.session.proofs.Session.answered.Statement.{statement}
 use Rattle.session.proofs.Session.answered.Tie as tie

@@ -1,7 +1,9 @@
 -- `Session::capability` meets its contract: each return by the tests that led there. Assumes nothing.
 use mathlib.Core.Path.{sym, _∙_}
+use borrow.Author.Tests.{eq-eqb, ne-eqb}
 use Rattle.choice.proofs.Branch.{pick-true, pick-false}
-use Rattle.session.specs.Events.{capability}
+use Rattle.session.specs.Decisions.{settled}
+use Rattle.session.specs.Events.{onCapability}
 use borrow.Author.Needs.{needs}
 use Rattle.session.proofs.Session.capability.Statement.{statement}
 use Rattle.session.proofs.Session.capability.Tie as tie
@@ -15,32 +17,36 @@ is-open-requires c κs = search needs
 read-area-requires : tie.Need-read-area-requires
 read-area-requires c κs = search needs
 
-capable-requires : tie.Need-capable-requires
-capable-requires c κs = search needs
+after-capability-requires : tie.Need-after-capability-requires
+after-capability-requires c κs = search needs
 
-settled-requires : tie.Need-settled-requires
-settled-requires c κs = search needs
-
-heard-requires : tie.Need-heard-requires
-heard-requires c κs = search needs
+negotiate-requires : tie.Need-negotiate-requires
+negotiate-requires c κs = search needs
 
 returns : tie.Need-returns
-unfolding capability
-returns c = simp (sym (c .before .before .before .before .before .before .before .sound .ensures) ∙ c .before .before .before .before .before .before .if1 .taken, sym (c .before .before .before .before .before .is-open .ensures) ∙ c .before .before .before .before .if2 .taken, c .heard .ensures, c .before .settled .ensures, c .before .before .capable .ensures, c .before .before .before .read-area .ensures, pick-true)
+unfolding settled onCapability
+returns c = simp (sym (c .before .before .before .before .before .before .before .before .sound .ensures) ∙ c .before .before .before .before .before .before .before .if1 .taken, sym (c .before .before .before .before .before .before .is-open .ensures) ∙ c .before .before .before .before .before .if2 .taken, eq-eqb _ _ (c .before .before .if3 .taken), c .negotiate .ensures, c .before .after-capability .ensures, sym (c .before .before .before .before .read-area .ensures), pick-true)
 
 refused-requires : tie.Need-refused-requires
 refused-requires c κs = search needs
 
 returns-2 : tie.Need-returns-2
-unfolding capability
-returns-2 c = simp (sym (c .before .before .before .before .sound .ensures) ∙ c .before .before .before .if1 .taken, sym (c .before .before .is-open .ensures) ∙ c .before .if2 .left, c .refused .ensures, pick-true, pick-false)
+unfolding settled onCapability
+returns-2 c = simp (sym (c .before .before .before .before .before .before .before .sound .ensures) ∙ c .before .before .before .before .before .before .if1 .taken, sym (c .before .before .before .before .before .is-open .ensures) ∙ c .before .before .before .before .if2 .taken, ne-eqb _ _ (c .before .if3 .left), c .refused .ensures, sym (c .before .before .before .read-area .ensures), pick-true, pick-false)
 
 refused-requires-2 : tie.Need-refused-requires-2
 refused-requires-2 c κs = search needs
 
 returns-3 : tie.Need-returns-3
-unfolding capability
-returns-3 c = simp (sym (c .before .before .sound .ensures) ∙ c .before .if1 .left, c .refused2 .ensures, pick-false)
+unfolding settled onCapability
+returns-3 c = simp (sym (c .before .before .before .before .sound .ensures) ∙ c .before .before .before .if1 .taken, sym (c .before .before .is-open .ensures) ∙ c .before .if2 .left, c .refused2 .ensures, pick-true, pick-false)
+
+refused-requires-3 : tie.Need-refused-requires-3
+refused-requires-3 c κs = search needs
+
+returns-4 : tie.Need-returns-4
+unfolding settled onCapability
+returns-4 c = simp (sym (c .before .before .sound .ensures) ∙ c .before .if1 .left, c .refused3 .ensures, pick-false)
 
 pub capability-spec : {M : Type 1} → statement M
 capability-spec =
@@ -49,11 +55,12 @@ capability-spec =
     sound-requires
     is-open-requires
     read-area-requires
-    capable-requires
-    settled-requires
-    heard-requires
+    after-capability-requires
+    negotiate-requires
     returns
     refused-requires
     returns-2
     refused-requires-2
-    returns-3)
+    returns-3
+    refused-requires-3
+    returns-4)

@@ -1,29 +1,65 @@
--- `Session::local_change` meets its contract: the room has the message exactly where one was written. Assumes nothing.
+-- `Session::local_change` meets its contract: each return by the tests that led there. Assumes nothing.
 use mathlib.Core.Path.{sym, _∙_}
-use borrow.Author.Tests.{lt-ltb, le-ltb}
-use Rattle.choice.proofs.Branch.{taken, left}
-use Rattle.session.specs.Events.{roomAfter}
+use Rattle.choice.proofs.Branch.{pick-true, pick-false}
+use Rattle.session.specs.Decisions.{settled}
+use Rattle.session.specs.Events.{onLocalChange}
 use borrow.Author.Needs.{needs}
 use Rattle.session.proofs.Session.local_change.Statement.{statement}
 use Rattle.session.proofs.Session.local_change.Tie as tie
 
-change-requires : tie.Need-change-requires
-change-requires c κs = search needs
+sound-requires : tie.Need-sound-requires
+sound-requires c κs = search needs
 
-write-requires : tie.Need-write-requires
-write-requires c κs = search needs
+is-known-requires : tie.Need-is-known-requires
+is-known-requires c κs = search needs
 
-same-length : tie.Need-same-length
-same-length c = search needs
+already-requires : tie.Need-already-requires
+already-requires c κs = search needs
+
+unchanged-requires : tie.Need-unchanged-requires
+unchanged-requires c κs = search needs
 
 returns : tie.Need-returns
-unfolding roomAfter
-returns c = (c .before .before .before .before .before .before .change .ensures, c .before .before .write .ensures ∙ sym (taken _ _ (lt-ltb 0 _ (rw (c .before .before .before .before .before .before .change .ensures) at (c .before .before .before .before .if1 .taken)))))
+unfolding settled onLocalChange
+returns c = simp (sym (c .before .before .before .before .before .before .sound .ensures) ∙ c .before .before .before .before .before .if1 .taken, sym (c .before .before .before .before .is-known .ensures) ∙ c .before .before .before .if2 .taken, sym (c .before .before .already .ensures) ∙ c .before .if3 .taken, c .unchanged .ensures, pick-true)
+
+changed-requires : tie.Need-changed-requires
+changed-requires c κs = search needs
+
+writing-requires : tie.Need-writing-requires
+writing-requires c κs = search needs
 
 returns-2 : tie.Need-returns-2
-unfolding roomAfter
-returns-2 c = (c .before .before .change .ensures, sym (left _ _ (le-ltb 0 _ (rw (c .before .before .change .ensures) at (c .if1 .left)))))
+unfolding settled onLocalChange
+returns-2 c = simp (sym (c .before .before .before .before .before .before .before .sound .ensures) ∙ c .before .before .before .before .before .before .if1 .taken, sym (c .before .before .before .before .before .is-known .ensures) ∙ c .before .before .before .before .if2 .taken, sym (c .before .before .before .already .ensures) ∙ c .before .before .if3 .left, c .writing .ensures, c .before .changed .ensures, pick-true, pick-false)
+
+refused-requires : tie.Need-refused-requires
+refused-requires c κs = search needs
+
+returns-3 : tie.Need-returns-3
+unfolding settled onLocalChange
+returns-3 c = simp (sym (c .before .before .before .before .sound .ensures) ∙ c .before .before .before .if1 .taken, sym (c .before .before .is-known .ensures) ∙ c .before .if2 .left, c .refused .ensures, pick-true, pick-false)
+
+refused-requires-2 : tie.Need-refused-requires-2
+refused-requires-2 c κs = search needs
+
+returns-4 : tie.Need-returns-4
+unfolding settled onLocalChange
+returns-4 c = simp (sym (c .before .before .sound .ensures) ∙ c .before .if1 .left, c .refused2 .ensures, pick-false)
 
 pub local-change-spec : {M : Type 1} → statement M
 local-change-spec =
-    tie.close (tie.spec change-requires write-requires same-length returns returns-2)
+    tie.close
+    (tie.spec
+    sound-requires
+    is-known-requires
+    already-requires
+    unchanged-requires
+    returns
+    changed-requires
+    writing-requires
+    returns-2
+    refused-requires
+    returns-3
+    refused-requires-2
+    returns-4)

@@ -1,6 +1,6 @@
 -- `Session::permission` meets its contract: each return by the tests that led there. Assumes nothing.
 use mathlib.Core.Path.{sym, _∙_}
-use borrow.Author.Tests.{le-leb, lt-leb}
+use borrow.Author.Tests.{lt-ltb, le-ltb}
 use Rattle.choice.proofs.Branch.{pick-true, pick-false}
 use Rattle.session.specs.Questions.{permission}
 use borrow.Author.Needs.{needs}
@@ -21,15 +21,15 @@ has-requires c κs = search needs
 
 returns : tie.Need-returns
 unfolding permission
-returns c = simp (sym (c .before .before .before .before .before .sound .ensures) ∙ c .before .before .before .before .if1 .taken, le-leb _ _ (c .before .before .before .if2 .taken), sym (c .before .has .ensures) ∙ c .if3 .taken, sym (c .before .before .permitted .ensures), pick-true)
+returns c = simp (sym (c .before .before .before .before .before .sound .ensures) ∙ c .before .before .before .before .if1 .taken, lt-ltb _ _ (c .before .before .before .if2 .taken), sym (c .before .has .ensures) ∙ c .if3 .taken, sym (c .before .before .permitted .ensures), pick-true)
 
 returns-2 : tie.Need-returns-2
 unfolding permission
-returns-2 c = simp (sym (c .before .before .before .before .before .sound .ensures) ∙ c .before .before .before .before .if1 .taken, le-leb _ _ (c .before .before .before .if2 .taken), sym (c .before .has .ensures) ∙ c .if3 .left, sym (c .before .before .permitted .ensures), pick-true, pick-false)
+returns-2 c = simp (sym (c .before .before .before .before .before .sound .ensures) ∙ c .before .before .before .before .if1 .taken, lt-ltb _ _ (c .before .before .before .if2 .taken), sym (c .before .has .ensures) ∙ c .if3 .left, sym (c .before .before .permitted .ensures), pick-true, pick-false)
 
 returns-3 : tie.Need-returns-3
 unfolding permission
-returns-3 c = simp (sym (c .before .before .sound .ensures) ∙ c .before .if1 .taken, lt-leb _ _ (c .if2 .left), pick-true, pick-false)
+returns-3 c = simp (sym (c .before .before .sound .ensures) ∙ c .before .if1 .taken, le-ltb _ _ (c .if2 .left), pick-true, pick-false)
 
 returns-4 : tie.Need-returns-4
 unfolding permission

@@ -2,6 +2,7 @@
 use mathlib.Core.Path.{sym, _∙_}
 use borrow.Author.Tests.{le-leb, lt-leb}
 use Rattle.choice.proofs.Branch.{pick-true, pick-false}
+use Rattle.session.specs.Decisions.{settled}
 use Rattle.session.specs.Events.{writing}
 use borrow.Author.Needs.{needs}
 use Rattle.session.proofs.Session.writing.Statement.{statement}
@@ -16,33 +17,36 @@ uses-tac-requires c κs = search needs
 dynamic-requires : tie.Need-dynamic-requires
 dynamic-requires c κs = search needs
 
-sent-requires : tie.Need-sent-requires
-sent-requires c κs = search needs
+cast-send : tie.Need-cast-send
+cast-send c = search needs
+
+send-requires : tie.Need-send-requires
+send-requires c κs = search needs
 
 returns : tie.Need-returns
-unfolding writing
-returns c = simp (simp (c .before .before .before .before .before .before .is-open .ensures, c .before .before .before .before .before .uses-tac .ensures) at (c .before .before .before .before .if1 .taken), sym (c .before .before .before .dynamic .ensures) ∙ c .before .before .if2 .taken, le-leb _ _ (c .before .if3 .taken), c .sent .ensures, pick-true)
+unfolding settled writing
+returns c = simp (simp (c .before .before .before .before .before .before .is-open .ensures, c .before .before .before .before .before .uses-tac .ensures) at (c .before .before .before .before .if1 .taken), sym (c .before .before .before .dynamic .ensures) ∙ c .before .before .if2 .taken, le-leb _ _ (c .before .if3 .taken), c .send .ensures, pick-true)
 
 refused-requires : tie.Need-refused-requires
 refused-requires c κs = search needs
 
 returns-2 : tie.Need-returns-2
-unfolding writing
+unfolding settled writing
 returns-2 c = simp (simp (c .before .before .before .before .before .before .is-open .ensures, c .before .before .before .before .before .uses-tac .ensures) at (c .before .before .before .before .if1 .taken), sym (c .before .before .before .dynamic .ensures) ∙ c .before .before .if2 .taken, lt-leb _ _ (c .before .if3 .left), c .refused .ensures, pick-true, pick-false)
 
 refused-requires-2 : tie.Need-refused-requires-2
 refused-requires-2 c κs = search needs
 
 returns-3 : tie.Need-returns-3
-unfolding writing
+unfolding settled writing
 returns-3 c = simp (simp (c .before .before .before .before .before .is-open .ensures, c .before .before .before .before .uses-tac .ensures) at (c .before .before .before .if1 .taken), sym (c .before .before .dynamic .ensures) ∙ c .before .if2 .left, c .refused2 .ensures, pick-true, pick-false)
 
-answered-requires : tie.Need-answered-requires
-answered-requires c κs = search needs
+done-requires : tie.Need-done-requires
+done-requires c κs = search needs
 
 returns-4 : tie.Need-returns-4
-unfolding writing
-returns-4 c = simp (simp (c .before .before .before .is-open .ensures, c .before .before .uses-tac .ensures) at (c .before .if1 .left), c .answered .ensures, pick-false)
+unfolding settled writing
+returns-4 c = simp (simp (c .before .before .before .is-open .ensures, c .before .before .uses-tac .ensures) at (c .before .if1 .left), c .done .ensures, pick-false)
 
 pub writing-spec : {M : Type 1} → statement M
 writing-spec =
@@ -51,11 +55,12 @@ writing-spec =
     is-open-requires
     uses-tac-requires
     dynamic-requires
-    sent-requires
+    cast-send
+    send-requires
     returns
     refused-requires
     returns-2
     refused-requires-2
     returns-3
-    answered-requires
+    done-requires
     returns-4)

@@ -1,10 +1,10 @@
--- `Session::capable` meets its contract: each return by the tests that led there. Assumes nothing.
+-- `Session::after_capability` meets its contract: each return by the tests that led there. Assumes nothing.
 use mathlib.Core.Path.{sym, _∙_}
 use Rattle.choice.proofs.Branch.{pick-true, pick-false}
-use Rattle.session.specs.Events.{capable}
+use Rattle.session.specs.Events.{afterCapability}
 use borrow.Author.Needs.{needs}
-use Rattle.session.proofs.Session.capable.Statement.{statement}
-use Rattle.session.proofs.Session.capable.Tie as tie
+use Rattle.session.proofs.Session.after_capability.Statement.{statement}
+use Rattle.session.proofs.Session.after_capability.Tie as tie
 
 part-of-requires : tie.Need-part-of-requires
 part-of-requires c κs = search needs
@@ -25,15 +25,15 @@ flags-after-requires : tie.Need-flags-after-requires
 flags-after-requires c κs = search needs
 
 returns : tie.Need-returns
-unfolding capable
+unfolding afterCapability
 returns c = simp (sym (c .before .before .before .before .takes-tac .ensures) ∙ c .before .before .before .if1 .taken, c .flags-after .ensures, c .before .list-after .ensures, c .before .before .part-of2 .ensures, c .before .before .before .before .before .sac-list .ensures, c .before .before .before .before .before .before .part-of .ensures, pick-true)
 
 returns-2 : tie.Need-returns-2
-unfolding capable
+unfolding afterCapability
 returns-2 c = simp (sym (c .before .takes-tac .ensures) ∙ c .if1 .left, c .before .before .sac-list .ensures, c .before .before .before .part-of .ensures, pick-false)
 
-pub capable-spec : {M : Type 1} → statement M
-capable-spec =
+pub after-capability-spec : {M : Type 1} → statement M
+after-capability-spec =
     tie.close
     (tie.spec
     part-of-requires

@@ -1,8 +1,8 @@
--- `Session::opening` meets its contract: by what its calls promise. Assumes nothing.
-use Rattle.session.specs.Events.{opening}
+-- `Session::after_initialization` meets its contract: by what its calls promise. Assumes nothing.
+use Rattle.session.specs.Events.{afterInitialization}
 use borrow.Author.Needs.{needs}
-use Rattle.session.proofs.Session.opening.Statement.{statement}
-use Rattle.session.proofs.Session.opening.Tie as tie
+use Rattle.session.proofs.Session.after_initialization.Statement.{statement}
+use Rattle.session.proofs.Session.after_initialization.Tie as tie
 
 takes-tac-requires : tie.Need-takes-tac-requires
 takes-tac-requires c κs = search needs
@@ -26,11 +26,11 @@ list-of-requires : tie.Need-list-of-requires
 list-of-requires c κs = search needs
 
 returns : tie.Need-returns
-unfolding opening
+unfolding afterInitialization
 returns c = simp (c .list-of .ensures, c .before .part-of2 .ensures, c .before .before .sac-list .ensures, c .before .before .before .part-of .ensures, c .before .before .before .before .raised2 .ensures, c .before .before .before .before .before .raised .ensures, c .before .before .before .before .before .before .before .before .takes-tac .ensures)
 
-pub opening-spec : {M : Type 1} → statement M
-opening-spec =
+pub after-initialization-spec : {M : Type 1} → statement M
+after-initialization-spec =
     tie.close
     (tie.spec
     takes-tac-requires
