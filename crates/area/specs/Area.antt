@@ -50,6 +50,20 @@ takeDynamic len r =
     taken (fault (r .dynamic) (not (eqb len 1)))
     (record { refusal = 0; tac = r .tac; sac = r .sac; dynamic = true })
 
+-- the types that we read
+abbrev pub tacType : ℕ
+tacType = 0x050F
+
+abbrev pub sacType : ℕ
+sacType = 0x050D
+
+abbrev pub dynamicType : ℕ
+dynamicType = 0x0506
+
+-- U, the highest of the first 16 bits
+abbrev pub uBit : ℕ
+uBit = 0x8000
+
 -- the type is the lower 14 of the first 16 bits; U, which is read of the other types alone, is the highest
 abbrev pub typeOf : ℕ → ℕ
 typeOf head = head % 0x4000

@@ -22,11 +22,14 @@ pub struct Reading {
 
 const MOST: usize = 4096;
 
-const TAC: usize = 0x050F;
+pub const TAC: usize = 0x050F;
 
 const SAC: usize = 0x050D;
 
 const DYNAMIC: usize = 0x0506;
+
+// U, the highest of the first 16 bits.
+pub const U_BIT: usize = 0x8000;
 
 // A refusal, or for 0 the reading before the first TLV.
 fn refuse(n: u8) -> Reading

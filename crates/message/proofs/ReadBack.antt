@@ -4,7 +4,7 @@ use Prim.Native.Nat.{ℕ, _/_, _%_, _<_}
 use mathlib.Core.Path.{_≡_, refl, ap₂}
 use mathlib.Core.List.{List, [], _∷_}
 use mathlib.Core.Bool.{Bool, true, false}
-use lib.ListN.{drop}
+use lib.ListN.{length, drop}
 use lib.Dec.{leb}
 use Rattle.choice.specs.Pick.{pick}
 use Rattle.octets.proofs.Numbers.{forth16}
@@ -12,17 +12,17 @@ use Rattle.sets.specs.Set.{switched}
 use Rattle.area.specs.declared.Reading.{Reading}
 use Rattle.area.specs.Area.{none, at16, fault, taken, takeTac, takeSac, takeDynamic, passOther, byType, tlvAt, readFrom, readArea, part}
 use Rattle.lists.specs.Tac.{sBit, idAt, eAt, stood, after, tacList}
-use Rattle.message.specs.Message.{eOctet, tacOctets, messageOf}
+use Rattle.message.specs.declared.Message.the-variants.{Change}
+use Rattle.message.specs.Message.{topBit, oneElement, tacOctets, messageOf, octetsOf, changeLength}
 
 -- the reading of such an area: a TAC of 5 octets from the fifth on, and nothing else
 abbrev pub oneTac : Reading
 oneTac = record { refusal = 0; tac = record { start = 4; len = 5 }; sac = none; dynamic = false }
 
--- its value
-abbrev pub oneElement : ℕ → Bool → List ℕ
-oneElement n on = 0x80 ∷ n / 256 % 256 ∷ n % 256 ∷ eOctet on ∷ 0 ∷ []
-
 module _ (number n : ℕ) (on : Bool) where
+  pub change-length : length (octetsOf (Change number n on)) ≡ changeLength
+  change-length = refl
+
   pub last-nine : drop 8 (messageOf number n on) ≡ tacOctets n on
   last-nine = refl
 
@@ -34,13 +34,13 @@ module _ (number n : ℕ) (on : Bool) where
   unfolding part
   value-back = refl
 
-e-back : (on : Bool) → leb 128 (eOctet on) ≡ on
-unfolding eOctet pick
+e-back : (on : Bool) → leb 128 (topBit on) ≡ on
+unfolding pick
 e-back true = refl
 e-back false = refl
 
 pub s-back : (n : ℕ) (on : Bool) → sBit (oneElement n on) ≡ true
-unfolding sBit
+unfolding sBit pick
 s-back n on = refl
 
 pub list-back : (n : ℕ) (on : Bool) (s : ℕ) → n < 65536 → tacList (oneElement n on) false s ≡ switched 13 s n on

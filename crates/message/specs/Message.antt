@@ -1,19 +1,65 @@
--- The written message: "type 0x0202, length 13, a 32-bit message number, one TAC with S = 1 and one element, E = 1 for on and 0 for off".
--- Assumes nothing.
-use Prim.Native.Nat.{ℕ}
-use mathlib.Core.Bool.{Bool}
+-- Messages that we write, from their parts. "Type 0x0202, length 13, a 32-bit message number, one TAC with S = 1 and one element, E = 1 for on
+-- and 0 for off; 17 octets, of which the last 9 are its area". Assumes nothing.
+use Prim.Native.Nat.{ℕ, _+_}
+use mathlib.Core.Bool.{Bool, true}
 use mathlib.Core.List.{List, [], _∷_, _++_}
+use lib.ListN.{length}
+use lib.Dec.{ltb}
 use Rattle.choice.specs.Pick.{pick}
-use Rattle.octets.specs.Octets.{be16, be32}
+use Rattle.octets.specs.Octets.{be16, be32, over}
+use Rattle.area.specs.Area.{tacType, uBit}
+use Rattle.message.specs.declared.Message.{Message}
+use Rattle.message.specs.declared.Message.the-variants.{NoMessage, Change}
 
--- E in its octet
-unfoldable pub eOctet : Bool → ℕ
-eOctet on = pick on 0x80 0
+-- S or E as the top bit of an octet: "reserved and unused bits are written 0"
+abbrev pub topBit : Bool → ℕ
+topBit on = pick on 0x80 0
 
--- the TAC of one element: "their U and F bits are written as 1 and 0"; "reserved and unused bits are written 0"
+-- an element of a TAC: "TA-Id (16 bits), E (the top bit of the third octet), 15 reserved bits"
+abbrev pub element : ℕ → Bool → List ℕ
+element n on = be16 n ++ (topBit on ∷ 0 ∷ [])
+
+-- the value of a TAC: "one octet with S as its top bit, then 0 or more elements"
+abbrev pub tacValue : Bool → List ℕ → List ℕ
+tacValue s elements = topBit s ∷ elements
+
+-- a TLV, "their U and F bits are written as 1 and 0": what stands before its value, and the whole
+abbrev pub tlvHead : ℕ → ℕ → List ℕ
+tlvHead type len = be16 (uBit + type) ++ be16 len
+
+abbrev pub tlv : ℕ → List ℕ → List ℕ
+tlv type value = tlvHead type (length value) ++ value
+
+-- a message: what stands before its area, with the length of what follows the length, and the whole
+abbrev pub messageHead : ℕ → ℕ → ℕ → List ℕ
+messageHead type len number = be16 type ++ (be16 (4 + len) ++ be32 number)
+
+abbrev pub message : ℕ → ℕ → List ℕ → List ℕ
+message type number area = messageHead type (length area) number ++ area
+
+-- a Capability message
+abbrev pub capabilityType : ℕ
+capabilityType = 0x0202
+
+-- for one application switched on or off: "one TAC with S = 1 and one element", its value and the area of it alone
+abbrev pub oneElement : ℕ → Bool → List ℕ
+oneElement n on = tacValue true (element n on)
+
 abbrev pub tacOctets : ℕ → Bool → List ℕ
-tacOctets n on = be16 0x850F ++ (be16 5 ++ (0x80 ∷ be16 n ++ (eOctet on ∷ 0 ∷ [])))
+tacOctets n on = tlv tacType (oneElement n on)
 
--- "17 octets, of which the last 9 are its area"
 abbrev pub messageOf : ℕ → ℕ → Bool → List ℕ
-messageOf number n on = be16 0x0202 ++ (be16 13 ++ (be32 number ++ tacOctets n on))
+messageOf number n on = message capabilityType number (tacOctets n on)
+
+-- what an event writes
+abbrev pub octetsOf : Message → List ℕ
+octetsOf NoMessage = []
+octetsOf (Change number n on) = messageOf number n on
+
+-- "17 octets"
+abbrev pub changeLength : ℕ
+changeLength = 17
+
+-- the room after an event that says how many octets were written: the message in front, and "octets of room beyond those written stay as found"
+unfoldable pub roomWith : ℕ → Message → List ℕ → List ℕ
+roomWith written m room = pick (ltb 0 written) (over (octetsOf m) room) room

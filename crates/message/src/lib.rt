@@ -1,49 +1,97 @@
-// The Capability message for a local change.
+// The messages that events write, from their parts: a head with its number, then TLVs.
 ghost use mathlib.Core.Path.{_≡_};
+ghost use Prim.Native.Nat.{_<_};
 ghost use Rattle.octets.specs.Octets.{over};
-ghost use Rattle.message.specs.Message.{eOctet, messageOf};
-use kinds::TaId;
+ghost use Rattle.message.specs.Message.{topBit, tlvHead, messageHead, oneElement, messageOf, roomWith};
 
-// How many octets the message has.
-pub const LENGTH: usize = 17;
+// What an event writes: nothing, or a message under its number.
+pub enum Message {
+    NoMessage,
+    // One application switched on or off.
+    Change { number: u32, ta_id: u32, on: bool },
+}
 
-fn e_octet(on: bool) -> u8
-    ensures { λ r. ⌜ r ≡ eOctet on ⌝ }
+// How many octets the message of a change has.
+pub const CHANGE_LENGTH: usize = 17;
+
+// The type of a Capability message.
+const CAPABILITY: u32 = 0x0202;
+
+// How many octets stand before the area of a message, and before the value of a TLV.
+const MESSAGE_HEAD: usize = 8;
+
+const TLV_HEAD: usize = 4;
+
+// S or E as the top bit of an octet.
+fn top_bit(on: bool) -> u8
+    ensures { λ r. ⌜ r ≡ topBit on ⌝ }
 {
     if on { 0x80 } else { 0 }
 }
 
-// The octets: type, length, number, and a TAC with S = 1 and one element.
-fn composed(number: u32, app: TaId, on: bool) -> [u8; 17]
-    ensures { λ r. ⌜ r ≡ messageOf number (app .0) on ⌝ }
+// What stands before the area of a message of type t, `len` the length of its area.
+fn message_head(t: u32, len: u32, number: u32) -> [u8; 8]
+    requires { ⌜ len < 65536 ⌝ }
+    ensures { λ r. ⌜ r ≡ messageHead t len number ⌝ }
 {
-    let n = app.0;
-    let e = e_octet(on);
     [
-        0x02,
-        0x02,
-        0,
-        13,
+        (t / 256 % 256) as u8,
+        (t % 256) as u8,
+        ((4 + len) / 256 % 256) as u8,
+        ((4 + len) % 256) as u8,
         (number / 16777216 % 256) as u8,
         (number / 65536 % 256) as u8,
         (number / 256 % 256) as u8,
         (number % 256) as u8,
-        0x85,
-        0x0F,
-        0,
-        5,
-        0x80,
-        (n / 256 % 256) as u8,
-        (n % 256) as u8,
-        e,
-        0,
     ]
 }
 
-// Writes the message over the front of the room; without 17 octets of room nothing is written.
-pub fn write(room: &mut [u8], number: u32, app: TaId, on: bool)
-    ensures { λ _. ⌜ now (room .exit) ≡ over (messageOf number (app .0) on) (now (room .entry)) ⌝ }
+// What stands before the value of a TLV: U = 1, F = 0, its type t, and `len` the length of its value.
+fn tlv_head(t: usize, len: usize) -> [u8; 4]
+    requires { ⌜ t < 16384 ⌝ }
+    ensures { λ r. ⌜ r ≡ tlvHead t len ⌝ }
 {
-    let message = composed(number, app, on);
-    octets::put(room, &message);
+    let head = area::U_BIT + t;
+    [
+        (head / 256 % 256) as u8,
+        (head % 256) as u8,
+        (len / 256 % 256) as u8,
+        (len % 256) as u8,
+    ]
+}
+
+// The value of a TAC with S = 1 and one element.
+fn one_element(n: u32, on: bool) -> [u8; 5]
+    ensures { λ r. ⌜ r ≡ oneElement n on ⌝ }
+{
+    let s = top_bit(true);
+    let e = top_bit(on);
+    [s, (n / 256 % 256) as u8, (n % 256) as u8, e, 0]
+}
+
+fn write_change(room: &mut [u8], number: u32, n: u32, on: bool)
+    ensures { λ _. ⌜ now (room .exit) ≡ over (messageOf number n on) (now (room .entry)) ⌝ }
+{
+    if room.len() < CHANGE_LENGTH {
+        return;
+    }
+    let head = message_head(CAPABILITY, 9, number);
+    let tlv = tlv_head(area::TAC, 5);
+    let value = one_element(n, on);
+    octets::put(room, &head);
+    octets::put_at(room, MESSAGE_HEAD, &tlv);
+    octets::put_at(room, MESSAGE_HEAD + TLV_HEAD, &value);
+}
+
+// Puts the message over the front of the room where octets were said to be written; else the room stays.
+pub fn write(room: &mut [u8], written: u16, message: Message)
+    ensures { λ _. ⌜ now (room .exit) ≡ roomWith written message (now (room .entry)) ⌝ }
+{
+    if written == 0 {
+        return;
+    }
+    match message {
+        Message::NoMessage => {}
+        Message::Change { number, ta_id, on } => write_change(room, number, ta_id, on),
+    }
 }

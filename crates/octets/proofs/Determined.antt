@@ -1,15 +1,18 @@
 -- Any two outcomes that the promise of a public function of `octets` allows are equal, the lent octets included: each promise is an equation.
 -- Assumes nothing.
 use mathlib.Core.Path.{_≡_, sym, _∙_}
-use denote.Ref.{now}
 use Rattle.choice.specs.Determined.{Determined}
 use Rattle.choice.proofs.Determined.{by-equation}
 use Rattle.octets.proofs.put.Reads as put
+use Rattle.octets.proofs.put_at.Reads as put-at
 use Rattle.octets.proofs.read16.Reads as read16
 use Rattle.octets.proofs.read32.Reads as read32
 
 pub put-determined : (κs : _) (a r r′ s s′ : _) → put.Post κs a r s → put.Post κs a r′ s′ → s .0 .now ≡ s′ .0 .now
 put-determined κs a r r′ s s′ p q = p ∙ sym q
+
+pub put-at-determined : (κs : _) (a r r′ s s′ : _) → put-at.Post κs a r s → put-at.Post κs a r′ s′ → s .0 .now ≡ s′ .0 .now
+put-at-determined κs a r r′ s s′ p q = p ∙ sym q
 
 pub read16-determined : (κs : _) → Determined (read16.Post κs)
 read16-determined κs = by-equation _

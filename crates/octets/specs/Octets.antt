@@ -1,7 +1,7 @@
 -- Numbers as octets, and octets put over the front of lent ones. Assumes nothing.
 use Prim.Native.Nat.{ℕ, _+_, _*_, _/_, _%_}
 use mathlib.Core.List.{List, [], _∷_, _++_}
-use lib.ListN.{length, getD, drop}
+use lib.ListN.{length, getD, take, drop}
 use lib.Dec.{leb}
 use Rattle.choice.specs.Pick.{pick}
 
@@ -29,3 +29,7 @@ leAt32 l i = getD l i 0 + 256 * getD l (i + 1) 0 + 65536 * getD l (i + 2) 0 + 16
 -- what is written stands in front, and "octets of room beyond those written stay as found"; what has no room is not written
 unfoldable pub over : List ℕ → List ℕ → List ℕ
 over written room = pick (leb (length written) (length room)) (written ++ drop (length written) room) room
+
+-- the same behind the first `at` octets, which stay
+unfoldable pub overAt : ℕ → List ℕ → List ℕ → List ℕ
+overAt at written room = take at room ++ over written (drop at room)

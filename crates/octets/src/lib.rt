@@ -2,7 +2,7 @@
 ghost use mathlib.Core.Path.{_≡_};
 ghost use Prim.Native.Nat.{_+_, _<_, _≤_};
 ghost use lib.ListN.{length};
-ghost use Rattle.octets.specs.Octets.{leAt16, leAt32, over};
+ghost use Rattle.octets.specs.Octets.{leAt16, leAt32, over, overAt};
 
 // Puts `written` over the front of the room; what lies beyond stays, and without enough room all of it does.
 pub fn put(room: &mut [u8], written: &[u8])
@@ -16,6 +16,14 @@ pub fn put(room: &mut [u8], written: &[u8])
         room[i] = written[i];
         i += 1;
     }
+}
+
+// The same from `at` on; what lies before stays too.
+pub fn put_at(room: &mut [u8], at: usize, written: &[u8])
+    requires { ⌜ at ≤ length (now room) ⌝ }
+    ensures { λ _. ⌜ now (room .exit) ≡ overAt at (now (written .entry)) (now (room .entry)) ⌝ }
+{
+    put(&mut room[at..], written);
 }
 
 fn wide16(x: u8) -> u16

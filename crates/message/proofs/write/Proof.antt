@@ -1,27 +1,60 @@
--- `message::write` meets its contract. Assumes nothing.
-use Prim.Native.Nat.{ℕ}
-use mathlib.Core.Path.{_∙_, ap}
-use mathlib.Core.List.{List}
+-- `message::write` meets its contract: by the number of octets said to be written, and by the message. Assumes nothing.
+use mathlib.Core.Path.{_∙_, ap, sym}
+use borrow.Author.Tests.{le-ltb, lt-ltb}
+use Prim.Native.Nat.{_≤_, _<_}
+use native.Mathlib.Omega.{arith}
+use mathlib.Core.List.{[]}
 use Rattle.octets.specs.Octets.{over}
+use Rattle.octets.proofs.Front.{over-fits}
+use Rattle.choice.proofs.Branch.{taken, left}
+use Rattle.message.specs.declared.Message.{Message}
+use Rattle.message.specs.Message.{octetsOf, roomWith}
 use borrow.Author.Needs.{needs}
 use Rattle.message.proofs.write.Statement.{statement}
 use Rattle.message.proofs.write.Tie as tie
 
-composed-requires : tie.Need-composed-requires
-composed-requires c κs = search needs
+returns : tie.Need-returns
+unfolding roomWith
+returns c =
+    let none : c .before .before .args .written ≤ 0 = omega arith in
+    sym (left _ _ (le-ltb 0 _ none))
 
-slice-aggregate-put : tie.Need-slice-aggregate-put
-slice-aggregate-put c = search needs
+enum-told : tie.Need-enum-told
+enum-told c = search needs
 
-put-requires : tie.Need-put-requires
-put-requires c κs = search needs
+enum-known-message : tie.Need-enum-known-message
+enum-known-message c = search needs
+
+write-change-requires : tie.Need-write-change-requires
+write-change-requires c κs = search needs
+
+returns-2 : tie.Need-returns-2
+unfolding roomWith
+returns-2 c =
+    let a = c .before .before .before .before .args in
+    let some : 0 < a .written = omega arith in
+    sym (taken _ _ (lt-ltb 0 _ some) ∙ ap (λ (m : Message). over (octetsOf m) (a .room .now)) (c .enum-told .given .1) ∙ over-fits [] _ (omega arith))
 
 same-length : tie.Need-same-length
 same-length c = search needs
 
-returns : tie.Need-returns
-returns c = c .before .before .put .ensures ∙ ap (λ (l : List ℕ). over l (c .before .before .before .before .before .before .before .args .room .now)) (c .before .before .before .before .before .composed .ensures)
+returns-3 : tie.Need-returns-3
+unfolding roomWith
+returns-3 c =
+    let told = c .before .before .before .before .before in
+    let a = told .before .before .before .before .args in
+    let some : 0 < a .written = omega arith in
+    c .before .before .write-change .ensures
+    ∙ sym (taken _ _ (lt-ltb 0 _ some) ∙ ap (λ (m : Message). over (octetsOf m) (a .room .now)) (told .message .given .1))
 
 pub write-spec : {M : Type 1} → statement M
 write-spec =
-    tie.close (tie.spec composed-requires slice-aggregate-put put-requires same-length returns)
+    tie.close
+    (tie.spec
+    returns
+    enum-told
+    enum-known-message
+    write-change-requires
+    returns-2
+    same-length
+    returns-3)

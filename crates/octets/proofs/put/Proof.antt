@@ -4,12 +4,9 @@ use Prim.Native.Nat.{ℕ, _+_, _-_, _≤_}
 use mathlib.Core.Path.{_≡_, refl, sym, ap, _∙_}
 use mathlib.Core.List.{List, _++_}
 use native.Mathlib.Omega.{arith}
-use borrow.Author.Tests.{le-leb, lt-leb}
 use lib.ListN.{length, getD, take, drop, set, length-set}
 use lib.Seq.{take-length}
-use Rattle.choice.proofs.Branch.{taken, left}
-use Rattle.octets.specs.Octets.{over}
-use Rattle.octets.proofs.Front.{front-more}
+use Rattle.octets.proofs.Front.{front-more, over-fits, over-short}
 use Rattle.octets.proofs.put.Statement.{statement}
 use Rattle.octets.proofs.put.Tie as tie
 
@@ -20,8 +17,7 @@ abbrev μ-loop : tie.MeasureT-loop
 μ-loop room₀ written i₀ room i = length written - i
 
 returns : tie.Need-returns Inv-loop μ-loop
-unfolding over
-returns c = sym (left _ _ (lt-leb _ _ (c .if1 .taken)))
+returns c = sym (over-short _ _ (c .if1 .taken))
 
 loop-holds : tie.Need-loop-holds Inv-loop μ-loop
 loop-holds c = (omega arith, refl, refl)
@@ -53,14 +49,13 @@ same-length : tie.Need-same-length Inv-loop μ-loop
 same-length c = omega arith
 
 returns-2 : tie.Need-returns-2 Inv-loop μ-loop
-unfolding over
 returns-2 c =
     let at = c .before in
     let d = at .before .before .args .room .now in
     let s = at .before .before .args .written .now in
     let whole : at .loop .i ≡ length s = omega arith in
     at .loop .inv .1 ∙ ap (λ (k : ℕ). take k s ++ drop k d) whole ∙ ap (λ (l : List ℕ). l ++ drop (length s) d) (take-length s)
-    ∙ sym (taken _ _ (le-leb _ _ (c .before .before .if1 .left)))
+    ∙ sym (over-fits _ _ (c .before .before .if1 .left))
 
 pub put-spec : {M : Type 1} → statement M
 put-spec =

@@ -1,0 +1,28 @@
+-- `octets::put_at` meets its contract: the part from `at` on is all that lies behind. Assumes nothing.
+use Rattle.octets.proofs.Front.{behind}
+use borrow.Author.Needs.{needs}
+use Rattle.octets.proofs.put_at.Statement.{statement}
+use Rattle.octets.proofs.put_at.Tie as tie
+
+sub-put : tie.Need-sub-put
+sub-put c = search needs
+
+part-put-start : tie.Need-part-put-start
+part-put-start c = search needs
+
+part-put-end : tie.Need-part-put-end
+part-put-end c = search needs
+
+put-requires : tie.Need-put-requires
+put-requires c κs = search needs
+
+same-length : tie.Need-same-length
+same-length c = search needs
+
+returns : tie.Need-returns
+returns c = behind _ _ _ _ (c .before .before .put .ensures)
+
+pub put-at-spec : {M : Type 1} → statement M
+put-at-spec =
+    tie.close
+    (tie.spec sub-put part-put-start part-put-end put-requires same-length returns)
