@@ -3,3 +3,6 @@ pub mod FlagsRaised
 pub mod Made
 pub mod Alike
 pub mod View
+pub mod Steps
+pub mod PermittedMeans
+pub mod Determined

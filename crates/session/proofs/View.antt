@@ -10,22 +10,22 @@ use borrow.Author.Tests.{eqb-true, leb-true}
 use Rattle.choice.specs.Pick.{pick}
 use Rattle.choice.proofs.Branch.{by-test, pick-both, taken}
 use Rattle.choice.proofs.Tests.{and-first, and-second, and-both}
-use Rattle.sets.specs.Set.{has, one, Within, numbered, switched}
+use Rattle.sets.specs.Set.{has, one, empty, Within, switched}
 use Rattle.sets.proofs.Flags as flag
 use Rattle.sets.proofs.Switches.{within-both, within-first, within-second}
 use Rattle.refusals.specs.Refusals.{notRefused, outOfRange, wrongState, noRoom, peerNotDynamic, notSound}
 use Rattle.kinds.specs.Kinds.{applicationCount, knownApplication, isIn}
 use Rattle.area.specs.declared.Reading.{Reading}
 use Rattle.area.specs.Area.{readArea}
-use Rattle.session.specs.Events.{changeLength}
+use Rattle.message.specs.Message.{changeLength}
 use Rattle.session.specs.declared.Session.{Session}
 use Rattle.session.specs.declared.After.{After}
-use Rattle.session.specs.Session.{stateReady, stateOpen, isReady, isOpen, isGone, usesTac, inForce, dynamic, recorded, usesTacBit, inForceBit, recordedBit, clearedOutOfOpen, nothingCommon, sound, Sound}
-use Rattle.session.specs.With.{withOtherEnabled, backToReady, heldToReady, greeted, changed}
+use Rattle.session.specs.Session.{stateReady, stateOpen, isReady, isOpen, isGone, usesTac, inForce, dynamic, recorded, usesTacBit, inForceBit, recordedBit, clearedOutOfOpen, negotiated, nothingCommon, Sound}
+use Rattle.session.specs.With.{withNext, withOtherEnabled, backToReady, heldToReady, greeted, changed}
 use Rattle.session.specs.Decisions.{answered, unchanged, Decision, Refused, Unchanged, Done, AsMismatch, Negotiate, Admit, Send, settled}
 use Rattle.session.specs.Events.{checked, afterInitialization, onInitialization, afterCapability, flagsAfter, listAfter, onCapability, same, already, writing, onLocalChange, onMismatch, onHello, onClosed, onUnknown, Event, Initialization, Capability, LocalChange, Mismatch, Hello, Closed, Unknown, decision}
 use Rattle.session.proofs.SoundMeans.{means-sound}
-use Rattle.session.proofs.Made.{never, Basic, basic, back-sound, ToReady, to-ready, gone-shut, greeted-sound, sound-common, changed-basic, changed-sound, opened-uses, opened-basic, opened-sound, told-uses, told-basic, told-sound}
+use Rattle.session.proofs.Made.{never, Basic, basic, back-sound, mismatched-shut, ToReady, to-ready, gone-shut, greeted-sound, sound-common, changed-basic, changed-sound, opened-uses, opened-basic, opened-sound, told-uses, told-basic, told-sound}
 use Rattle.session.proofs.Alike.{Alike, alike, Follows, common-more, mismatch-follows, done-follows, negotiate-follows, admit-follows, send-follows}
 
 -- ---- what is known of a session that an event makes
@@ -157,10 +157,10 @@ module _ (s : Session) (e m : ℕ) (h : Within (s .enabled) e) (r : Sound s) (r�
   initialization-view a b =
       let ev = Initialization a b in
       let found = readArea a in
-      let V = View s (withOtherEnabled s e m) ev in
+      let W = View s (withOtherEnabled s e m) ev in
       both-checked s e m h ev r r′ _ _
-      (pick-both V (isReady s)
-      (λ q. pick-both V (eqb (found .refusal) notRefused)
+      (pick-both W (isReady s)
+      (λ q. pick-both W (eqb (found .refusal) notRefused)
       (λ z. record {
         facts = (
           record {
@@ -183,10 +183,10 @@ module _ (s : Session) (e m : ℕ) (h : Within (s .enabled) e) (r : Sound s) (r�
   capability-view a =
       let ev = Capability a in
       let found = readArea a in
-      let V = View s (withOtherEnabled s e m) ev in
+      let W = View s (withOtherEnabled s e m) ev in
       both-checked s e m h ev r r′ _ _
-      (pick-both V (isOpen s)
-      (λ q. pick-both V (eqb (found .refusal) notRefused)
+      (pick-both W (isOpen s)
+      (λ q. pick-both W (eqb (found .refusal) notRefused)
       (λ _. record {
         facts = record {
           basic = told-basic s r q a found;
@@ -208,7 +208,7 @@ module _ (s : Session) (e m : ℕ) (h : Within (s .enabled) e) (r : Sound s) (r�
       (pick-both (View s (withOtherEnabled s e m) Mismatch) (isReady s || isOpen s)
       (λ _. record {
         facts = record { basic = basic r; is-sound = λ _. r; narrow = λ n _. n; uses = refl; enabling = refl };
-        follows = mismatch-follows s (withOtherEnabled s e m) s e m h _;
+        follows = mismatch-follows s (withOtherEnabled s e m) s e m h (settled (withOtherEnabled s e m) (AsMismatch (withOtherEnabled s e m)));
       })
       (λ _. refuses s e m h Mismatch wrongState))
 
@@ -257,16 +257,189 @@ module _ (s : Session) (e m : ℕ) (h : Within (s .enabled) e) (r : Sound s) (r�
   unfolding onHello heldToReady
   hello-view number =
       let ev = Hello number in
-      let V = View s (withOtherEnabled s e m) ev in
+      let W = View s (withOtherEnabled s e m) ev in
       let w = to-ready (s .state) (r .state) in
       let woken = heldToReady s in
       both-checked s e m h ev r r′ _ _
-      (pick-both V (isGone s)
+      (pick-both W (isGone s)
       (λ q. done s e m h ev (greeted s stateReady number) e h
       (greets number stateReady (greeted-sound s r number stateReady (lit≤ tt) (sym (gone-shut (s .state) (r .state) q)) (λ z. absurd (false≢true z)) refl) (λ _. refl)))
-      (λ q. pick-both V (not (recorded s))
+      (λ q. pick-both W (not (recorded s))
       (λ _. done s e m h ev (greeted s (s .state) number) e h (greets number (s .state) (greeted-sound s r number (s .state) (r .state) refl (λ z. z) q) (λ z. z)))
-      (λ _. pick-both V (ltb (s .hello) number)
+      (λ _. pick-both W (ltb (s .hello) number)
       (λ _. done s e m h ev (greeted s woken number) e h
       (greets number woken (greeted-sound s r number woken (w .small) (w .as-open) (λ z. never z (w .not-held)) (w .as-gone ∙ q)) (λ z. w .as-open ∙ z)))
       (λ _. stays s e m h ev))))
+
+-- ---- Local change: what it makes of one session
+-- where nothing is to be written, negotiation is not in force
+unwritten-common : (s : Session) → Sound s → (n : ℕ) (on : Bool) → (isOpen s && usesTac s) ≡ false → nothingCommon (changed s n on) ≡ false
+unfolding nothingCommon
+unwritten-common s r n on o = go (inForce s) refl
+  where
+    go : (f : Bool) → inForce s ≡ f → (f && empty (negotiated (changed s n on))) ≡ false
+    go false k = refl
+    go true k = never (and-both (isOpen s) (usesTac s) (r .force-open k) (r .force-uses k)) o
+
+module _ (s : Session) (r : Sound s) (n : ℕ) (on : Bool) (room : ℕ) (known : knownApplication n ≡ true) (not-so : already s n on ≡ false) where
+  changes : Makes s (LocalChange n on room) (changed s n on)
+  changes =
+      record {
+        basic = changed-basic s r n on;
+        is-sound = changed-sound s r n on;
+        narrow = λ k _. record { hello = k .hello; next = k .next };
+        uses = refl;
+        enabling = record { known = known; not-so = not-so; is = refl };
+      }
+
+  writing-facts : Facts s (LocalChange n on room) (writing s (changed s n on) room)
+  unfolding writing heldToReady
+  writing-facts =
+      by-test F
+      (λ o. by-test F
+      (λ _. by-test F (λ q. (changes, record { is-open = and-first (isOpen s) _ o; long = refl; enough = leb-true changeLength room q })) (λ _. tt)) (λ _. tt))
+      (λ o. record {
+        makes = changes;
+        common = unwritten-common s r n on o;
+        still = record { shut = λ z. to-ready (s .state) (r .state) .as-open ∙ z; listed = λ _ _. refl; force = λ _ _. refl };
+      })
+    where
+      F : Decision → Type 0
+      F = Facts s (LocalChange n on room)
+
+-- ---- and beside one that enables more. Eight cases, by what it asks and by which of the two has it so already; two of them cannot be
+-- an Open session is not Held, and what is Open after it was Open before
+open-stays : (s : Session) → isOpen s ≡ true → heldToReady s ≡ s .state
+unfolding heldToReady pick
+open-stays s k = let z = eqb-true (s .state) stateOpen k in rw z refl
+
+was-open : (s : Session) → eqb (heldToReady s) stateOpen ≡ true → isOpen s ≡ true
+unfolding heldToReady
+was-open s = by-test (λ (k : ℕ). eqb k stateOpen ≡ true → isOpen s ≡ true) (λ _ z. absurd (false≢true z)) (λ _ z. z)
+
+-- in the set, with more in it
+in-more : (a b n : ℕ) → Within a b → isIn a n ≡ true → isIn b n ≡ true
+unfolding isIn
+in-more a b n h e = and-both _ _ (and-first (knownApplication n) _ e) (h (n - 1) (and-second (knownApplication n) _ e))
+
+in-has : (a n : ℕ) → isIn a n ≡ true → has a (n - 1) ≡ true
+unfolding isIn
+in-has a n e = and-second (knownApplication n) _ e
+
+out-lacks : (a n : ℕ) → isIn a n ≡ false → knownApplication n ≡ true → has a (n - 1) ≡ false
+unfolding isIn
+out-lacks a n e h = sym (ap (λ (b : Bool). b && has a (n - 1)) h) ∙ e
+
+module _ (s : Session) (e m : ℕ) (h : Within (s .enabled) e) (n room : ℕ) where
+  abbrev other : Session
+  other = withOtherEnabled s e m
+
+  -- what holds of the two after it
+  abbrev Pair : Decision → Decision → Type 0
+  Pair c c′ = Follows (settled s c) (settled other c′)
+
+  same-refused : (k : ℕ) → Pair (Refused k) (Refused k)
+  unfolding settled
+  same-refused k _ = alike s e m h
+
+  both-change : (on : Bool) → Within (switched applicationCount (s .enabled) n on) (switched applicationCount e n on)
+      → Pair (writing s (changed s n on) room) (writing other (changed other n on) room)
+  unfolding writing heldToReady
+  both-change on w =
+      let t = changed s n on in
+      let e′ = switched applicationCount e n on in
+      pick-both Pair (isOpen s && usesTac s)
+      (λ _. pick-both Pair (dynamic s)
+      (λ _. pick-both Pair (leb changeLength room) (λ _. send-follows s other t e′ m w changeLength) (λ _. same-refused noRoom)) (λ _. same-refused peerNotDynamic))
+      (λ _. done-follows s other t e′ m w)
+
+  -- only the second changed, which was and stays Open
+  second-changes : Sound s → Within (s .enabled) (switched applicationCount e n false) → Pair Unchanged (writing other (changed other n false) room)
+  unfolding writing settled answered heldToReady nothingCommon
+  second-changes r w k =
+      by-test P
+      (λ _. by-test P
+      (λ _. by-test P
+      (λ _. by-test A (λ x. never x (common-more s (switched applicationCount e n false) m w (sound-common s r))) (λ _. stayed _))
+      (λ _. alike s e m h))
+      (λ _. alike s e m h))
+      (λ _. stayed m)
+    where
+      A : After → Type 0
+      A z = Alike s (z .session)
+
+      P : Decision → Type 0
+      P c = A (settled other c)
+
+      stayed : (next : ℕ) → Alike s (withOtherEnabled (changed s n false) (switched applicationCount e n false) next)
+      stayed next = record { same-else = rw (open-stays s k) refl; more = w }
+
+  -- only the first changed
+  first-changes : Within (switched applicationCount (s .enabled) n true) e → Pair (writing s (changed s n true) room) Unchanged
+  unfolding writing settled answered heldToReady
+  first-changes w =
+      by-test P
+      (λ _. by-test P
+      (λ _. by-test P
+      (λ _. by-test A (λ _ k. never k (mismatched-shut (changed s n true))) (λ _ k. stayed _ k))
+      (λ _ k. alike s e m h))
+      (λ _ k. alike s e m h))
+      (λ _ k. stayed (s .next) k)
+    where
+      A : After → Type 0
+      A z = Follows z (unchanged other)
+
+      P : Decision → Type 0
+      P c = A (settled s c)
+
+      stayed : (next : ℕ) → isOpen (changed s n true) ≡ true → Alike (withNext (changed s n true) next) other
+      stayed next k = record { same-else = rw (open-stays s (was-open s k)) refl; more = w }
+
+module _ (s : Session) (e m : ℕ) (h : Within (s .enabled) e) (r : Sound s) (r′ : Sound (withOtherEnabled s e m)) (n room : ℕ) where
+  change-view : knownApplication n ≡ true → (on x y : Bool) → isIn (s .enabled) n ≡ x → isIn e n ≡ y
+      → View s (withOtherEnabled s e m) (LocalChange n on room) (pick (same x on) Unchanged (writing s (changed s n on) room))
+      (pick (same y on) Unchanged (writing (withOtherEnabled s e m) (changed (withOtherEnabled s e m) n on) room))
+  unfolding pick
+  change-view k true true true p q = stays s e m h (LocalChange n true room)
+  change-view k true true false p q = never (in-more (s .enabled) e n h p) q
+  change-view k true false true p q =
+      record {
+        facts = writing-facts s r n true room k (ap (λ (b : Bool). same b true) p);
+        follows = first-changes s e m h n room (within-first applicationCount n (s .enabled) e h (λ _. in-has e n q));
+      }
+  change-view k true false false p q =
+      record {
+        facts = writing-facts s r n true room k (ap (λ (b : Bool). same b true) p);
+        follows = both-change s e m h n room true (within-both applicationCount n (s .enabled) e h true);
+      }
+  change-view k false true true p q =
+      record {
+        facts = writing-facts s r n false room k (ap (λ (b : Bool). same b false) p);
+        follows = both-change s e m h n room false (within-both applicationCount n (s .enabled) e h false);
+      }
+  change-view k false true false p q = never (in-more (s .enabled) e n h p) q
+  change-view k false false true p q =
+      record { facts = tt; follows = second-changes s e m h n room r (within-second applicationCount n (s .enabled) e h (λ _. out-lacks (s .enabled) n p k)) }
+  change-view k false false false p q = stays s e m h (LocalChange n false room)
+
+  local-change-view : (on : Bool) → View s (withOtherEnabled s e m) (LocalChange n on room) (onLocalChange s n on room) (onLocalChange (withOtherEnabled s e m) n on room)
+  unfolding onLocalChange
+  local-change-view on =
+      let ev = LocalChange n on room in
+      both-checked s e m h ev r r′ _ _
+      (pick-both (View s (withOtherEnabled s e m) ev) (knownApplication n) (λ k. change-view k on _ _ refl refl) (λ _. refuses s e m h ev outOfRange))
+
+-- ---- every event
+module _ (s : Session) (e m : ℕ) (h : Within (s .enabled) e) (r : Sound s) (r′ : Sound (withOtherEnabled s e m)) where
+  pub view : (ev : Event) → View s (withOtherEnabled s e m) ev (decision s ev) (decision (withOtherEnabled s e m) ev)
+  view (Initialization a b) = initialization-view s e m h r r′ a b
+  view (Capability a) = capability-view s e m h r r′ a
+  view (LocalChange n on room) = local-change-view s e m h r r′ n room on
+  view Mismatch = mismatch-view s e m h r r′
+  view (Hello number) = hello-view s e m h r r′ number
+  view Closed = closed-view s e m h r r′
+  view Unknown = unknown-view s e m h r r′
+
+-- of one session: it is within itself
+pub facts-of : (s : Session) → Sound s → (ev : Event) → Facts s ev (decision s ev)
+facts-of s r ev = view s (s .enabled) (s .next) (λ _ z. z) r r ev .facts

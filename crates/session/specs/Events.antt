@@ -12,15 +12,15 @@ use Rattle.area.specs.declared.Reading.{Reading}
 use Rattle.area.specs.Area.{readArea, part}
 use Rattle.lists.specs.Tac.{sBit, tacList}
 use Rattle.lists.specs.Sac.{sacList}
+use Rattle.message.specs.declared.Message.{Message}
+use Rattle.message.specs.declared.Message.the-variants.{NoMessage, Change}
+use Rattle.message.specs.Message.{changeLength, roomWith}
 use Rattle.session.specs.declared.Session.{Session}
 use Rattle.session.specs.declared.After.{After}
 use Rattle.session.specs.Session.{stateReady, stateOpen, isReady, isOpen, isGone, usesTac, inForce, dynamic, recorded, inForceBit, dynamicBit, sound}
 use Rattle.session.specs.With.{withState, withFlags, withDisabled, withListed, backToReady, heldToReady, greeted, changed}
 use Rattle.session.specs.Creation.{raised}
 use Rattle.session.specs.Decisions.{Decision, Refused, Unchanged, Done, AsMismatch, Negotiate, Admit, Send, settled}
-
-abbrev pub changeLength : ℕ
-changeLength = 17
 
 -- 10 for a session that is not sound, before all others
 abbrev pub checked : Session → Decision → Decision
@@ -147,3 +147,16 @@ abbrev pub run : Session → List Event → Session
 run s [] = s
 run s (e ∷ es) = run (step s e .session) es
 
+-- ---- what is written, under the number that the session had
+abbrev pub messageFor : Session → Event → Message
+messageFor s (Initialization area belowLimit) = NoMessage
+messageFor s (Capability area) = NoMessage
+messageFor s (LocalChange n on room) = Change (s .next) n on
+messageFor s Mismatch = NoMessage
+messageFor s (Hello number) = NoMessage
+messageFor s Closed = NoMessage
+messageFor s Unknown = NoMessage
+
+-- the room after the event: the message where the answer says that octets were written, else as found
+unfoldable pub roomAfter : Session → Event → List ℕ → List ℕ
+roomAfter s e room = roomWith (step s e .answer .written) (messageFor s e) room

@@ -1,0 +1,96 @@
+-- A kind is permitted exactly when the session is Open, SAC has not disabled it and, where negotiation is in force, some application both enabled
+-- and listed maps to it. By the laws of the sets that `permitted` is made of. Assumes nothing.
+use mathlib.Core.Path.{_≡_, refl, sym, ap, _∙_}
+use mathlib.Core.Bool.{Bool, true, false, not, _&&_, true≢false}
+use Prim.Native.Nat.{ℕ, _-_, _^_, _<_, _≤_}
+use native.Mathlib.Omega.{arith}
+use native.Mathlib.Decide.{decLt}
+use lib.Dec.{lit<}
+use Rattle.choice.specs.Pick.{pick}
+use Rattle.choice.proofs.Branch.{taken, left}
+use Rattle.choice.proofs.Tests.{and-first, and-second, and-both, not-false}
+use Rattle.sets.specs.Set.{has}
+use Rattle.sets.proofs.Members.{has-common, has-minus, has-none, has-above, has-all}
+use Rattle.kinds.specs.Kinds.{applicationCount, kindCount, allKinds, opens, opened, disables, Some}
+use Rattle.kinds.proofs.Table.{opens-lt}
+use Rattle.kinds.proofs.Gathered.{gather-lt, opened-some, some-opened, disables-some, some-disables}
+use Rattle.session.specs.declared.Session.{Session}
+use Rattle.session.specs.Session.{isOpen, inForce, negotiated, Sound, permitted, Negotiates, Permitted}
+
+-- no other number than a kind's in a set of kinds
+pub kind-of : (a k : ℕ) → a < 2 ^ kindCount → has a k ≡ true → k < kindCount
+kind-of a k h e = go (decLt k kindCount)
+  where
+    go : Dec (k < kindCount) → k < kindCount
+    go (yes l) = omega arith
+    go (no l) = absurd (true≢false (sym e ∙ has-above kindCount a k h (omega arith)))
+
+module _ (s : Session) (k : ℕ) where
+  -- an application of the common set is both enabled and listed
+  both : Some (opens (s .protects)) applicationCount (negotiated s) k → Negotiates s k
+  both o =
+      let e = sym (has-common (s .enabled) (s .listed) (o .number - 1)) ∙ o .member in
+      record {
+        number = o .number;
+        least = o .least;
+        most = o .most;
+        is-enabled = and-first (has (s .enabled) (o .number - 1)) _ e;
+        is-listed = and-second (has (s .enabled) (o .number - 1)) _ e;
+        maps = o .maps;
+      }
+
+  common-of : Negotiates s k → Some (opens (s .protects)) applicationCount (negotiated s) k
+  common-of o =
+      record {
+        number = o .number;
+        least = o .least;
+        most = o .most;
+        member = has-common (s .enabled) (s .listed) (o .number - 1) ∙ and-both _ _ (o .is-enabled) (o .is-listed);
+        maps = o .maps;
+      }
+
+  -- what negotiation leaves, before SAC is asked
+  offered : ℕ
+  offered = pick (inForce s) (opened (s .protects) (negotiated s)) allKinds
+
+  offered-kind : s .protects < 2 ^ kindCount → has offered k ≡ true → k < kindCount
+  unfolding offered opened
+  offered-kind h = go (inForce s) refl
+    where
+      go : (x : Bool) → inForce s ≡ x → has offered k ≡ true → k < kindCount
+      go true e p =
+          kind-of (opened (s .protects) (negotiated s)) k (gather-lt (opens (s .protects)) kindCount applicationCount (negotiated s) (λ n. opens-lt (s .protects) n h))
+          (sym (ap (λ (o : ℕ). has o k) (taken _ _ e)) ∙ p)
+      go false e p = kind-of allKinds k (lit< tt) (sym (ap (λ (o : ℕ). has o k) (left _ _ e)) ∙ p)
+
+  when-open : isOpen s ≡ true → has (permitted s) k ≡ (has offered k && not (has (disables (s .disabled)) k))
+  unfolding permitted offered
+  when-open e = ap (λ (p : ℕ). has p k) (taken _ _ e) ∙ has-minus _ (disables (s .disabled)) k
+
+  pub permitted-means : Sound s → has (permitted s) k ≡ true → Permitted s k
+  unfolding permitted offered
+  permitted-means r h = go (isOpen s) refl
+    where
+      go : (x : Bool) → isOpen s ≡ x → Permitted s k
+      go false e = absurd (true≢false (sym h ∙ ap (λ (p : ℕ). has p k) (left _ _ e) ∙ has-none k))
+      go true e =
+          let t = sym (when-open e) ∙ h in
+          let o = and-first (has offered k) _ t in
+          record {
+            is-open = e;
+            kind = offered-kind (r .protects) o;
+            not-disabled = λ d. true≢false (sym (some-disables (s .disabled) k d) ∙ not-false _ (and-second (has offered k) _ t));
+            negotiates = λ f. both (opened-some (s .protects) (negotiated s) k (sym (ap (λ (p : ℕ). has p k) (taken _ _ f)) ∙ o));
+          }
+
+  pub means-permitted : Permitted s k → has (permitted s) k ≡ true
+  unfolding offered
+  means-permitted p = when-open (p .is-open) ∙ and-both _ _ (go (inForce s) refl) (ap not (allowed (has (disables (s .disabled)) k) refl))
+    where
+      go : (x : Bool) → inForce s ≡ x → has offered k ≡ true
+      go true e = ap (λ (o : ℕ). has o k) (taken _ _ e) ∙ some-opened (s .protects) (negotiated s) k (common-of (p .negotiates e))
+      go false e = let l : k < kindCount = p .kind in ap (λ (o : ℕ). has o k) (left _ _ e) ∙ has-all kindCount k l
+
+      allowed : (x : Bool) → has (disables (s .disabled)) k ≡ x → has (disables (s .disabled)) k ≡ false
+      allowed true e = absurd (p .not-disabled (disables-some (s .disabled) k e))
+      allowed false e = e

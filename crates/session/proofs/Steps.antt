@@ -1,0 +1,165 @@
+-- What holds after every event, read off what it was decided to come to: the session is sound if it was, its numbers stay below 2 ^ 32, what is refused
+-- changes nothing, and outcome 3 is a session that was to be admitted. By cases on the decision, and the facts of its view. Assumes nothing.
+use Prim.Native.Nat.{ℕ, _+_, _^_, _<_}
+use mathlib.Core.Path.{_≡_, refl, sym, ap, ap₂, _∙_}
+use mathlib.Core.Bool.{Bool, true, false, _&&_, and-true}
+use mathlib.Core.List.{List}
+use native.Mathlib.Nat.{mod-lt}
+use native.Mathlib.Omega.{arith}
+use lib.Dec.{lit<}
+use lib.Pow.{pow-pos}
+use Rattle.choice.specs.Pick.{pick}
+use Rattle.choice.proofs.Branch.{by-test, pick-both, taken, left}
+use Rattle.sets.specs.Set.{has, common, empty, minus}
+use Rattle.sets.proofs.Bounds.{common-lt}
+use Rattle.sets.proofs.Members.{has-common, has-all, ext}
+use Rattle.refusals.specs.Refusals.{notRefused}
+use Rattle.kinds.specs.Kinds.{applicationCount, allApplications}
+use Rattle.session.specs.declared.Session.{Session}
+use Rattle.session.specs.declared.After.{After}
+use Rattle.session.specs.Session.{isReady, isOpen, inForce, negotiated, nothingCommon, Sound, permitted}
+use Rattle.session.specs.With.{mismatched}
+use Rattle.session.specs.Limits.{atLimit}
+use Rattle.session.specs.Decisions.{outcomeAtLimit, refused, answered, Decision, Refused, Unchanged, Done, AsMismatch, Negotiate, Admit, Send, settled}
+use Rattle.session.specs.Events.{checked, onInitialization, Event, Initialization, decision, step}
+use Rattle.session.proofs.Made.{mismatched-sound, next-sound}
+use Rattle.session.proofs.View.{Narrow, Numbered, Facts, facts-of}
+
+-- ---- sound
+module _ (s : Session) (r : Sound s) where
+  abbrev Kept : After → Type 0
+  Kept after = Sound (after .session)
+
+  settled-sound : (e : Event) (c : Decision) → Facts s e c → Kept (settled s c)
+  unfolding settled answered
+  settled-sound e (Refused n) f = r
+  settled-sound e Unchanged f = r
+  settled-sound e (Done t) f = f .makes .is-sound (f .common)
+  settled-sound e (AsMismatch t) f = mismatched-sound t (f .basic)
+  settled-sound e (Negotiate t) f = by-test Kept (λ _. mismatched-sound t (f .basic)) (f .is-sound)
+  settled-sound e (Admit t belowLimit) f =
+      by-test Kept (λ _. mismatched-sound t (f .0 .basic)) (λ q. by-test Kept (λ _. mismatched-sound t (f .0 .basic)) (λ _. f .0 .is-sound q))
+  settled-sound e (Send t written) f = by-test Kept (λ _. mismatched-sound t (f .0 .basic)) (λ q. next-sound t _ (f .0 .is-sound q))
+
+  pub step-sound : (e : Event) → Sound (step s e .session)
+  step-sound e = settled-sound e (decision s e) (facts-of s r e)
+
+-- ---- numbers of 32 bits
+mismatched-narrow : (t : Session) → Narrow t → Narrow (mismatched t)
+unfolding mismatched
+mismatched-narrow t n =
+    by-test Narrow
+    (λ _. by-test Narrow (λ _. record { hello = lit< tt; next = n .next }) (λ _. record { hello = n .hello; next = n .next }))
+    (λ _. record { hello = n .hello; next = n .next })
+
+module _ (s : Session) (r : Sound s) (n : Narrow s) where
+  abbrev Fits : After → Type 0
+  Fits after = Narrow (after .session)
+
+  settled-narrow : (e : Event) → Numbered e → (c : Decision) → Facts s e c → Fits (settled s c)
+  unfolding settled answered
+  settled-narrow e k (Refused i) f = n
+  settled-narrow e k Unchanged f = n
+  settled-narrow e k (Done t) f = f .makes .narrow n k
+  settled-narrow e k (AsMismatch t) f = mismatched-narrow t (f .narrow n k)
+  settled-narrow e k (Negotiate t) f = by-test Fits (λ _. mismatched-narrow t (f .narrow n k)) (λ _. f .narrow n k)
+  settled-narrow e k (Admit t belowLimit) f =
+      let small = f .0 .narrow n k in
+      by-test Fits (λ _. mismatched-narrow t small) (λ _. by-test Fits (λ _. mismatched-narrow t small) (λ _. small))
+  settled-narrow e k (Send t written) f =
+      let small = f .0 .narrow n k in
+      by-test Fits (λ _. mismatched-narrow t small) (λ _. record { hello = small .hello; next = mod-lt (t .next + 1) (pow-pos 32) })
+
+  pub step-narrow : (e : Event) → Numbered e → Narrow (step s e .session)
+  step-narrow e k = settled-narrow e k (decision s e) (facts-of s r e)
+
+-- ---- what is refused changes nothing, whatever the session
+module _ (s : Session) where
+  -- a refusal is the refusal of that number, and nothing else
+  abbrev Bare : After → Type 0
+  Bare after = (after .answer .refusal ≡ notRefused → ⊥) → after ≡ refused s (after .answer .refusal)
+
+  settled-bare : (c : Decision) → Bare (settled s c)
+  unfolding settled answered
+  settled-bare (Refused n) = λ h. refl
+  settled-bare Unchanged = λ h. absurd (h refl)
+  settled-bare (Done t) = λ h. absurd (h refl)
+  settled-bare (AsMismatch t) = λ h. absurd (h refl)
+  settled-bare (Negotiate t) = by-test Bare (λ _ h. absurd (h refl)) (λ _ h. absurd (h refl))
+  settled-bare (Admit t belowLimit) = by-test Bare (λ _ h. absurd (h refl)) (λ _. by-test Bare (λ _ h. absurd (h refl)) (λ _ h. absurd (h refl)))
+  settled-bare (Send t written) = by-test Bare (λ _ h. absurd (h refl)) (λ _ h. absurd (h refl))
+
+  pub step-bare : (e : Event) → Bare (step s e)
+  step-bare e = settled-bare (decision s e)
+
+-- ---- outcome 3: to be admitted, with something common and nothing of it below its limit
+pub record TurnedAway (s : Session) (c : Decision) : Type 0 where
+  pub session : Session
+  pub belowLimit : ℕ
+  pub admit : c ≡ Admit session belowLimit
+  pub common : nothingCommon session ≡ false
+  pub at-limit : atLimit session belowLimit ≡ true
+  pub is : settled s c ≡ answered s (mismatched session) outcomeAtLimit 0
+
+module _ (s : Session) where
+  abbrev AtLimit : Decision → After → Type 0
+  AtLimit c after = after .answer .outcome ≡ outcomeAtLimit → TurnedAway s c
+
+  pub turned-away : (c : Decision) → AtLimit c (settled s c)
+  unfolding settled answered
+  turned-away (Refused n) = λ h. absurd (omega arith)
+  turned-away Unchanged = λ h. absurd (omega arith)
+  turned-away (Done t) = λ h. absurd (omega arith)
+  turned-away (AsMismatch t) = λ h. absurd (omega arith)
+  turned-away (Negotiate t) = by-test (AtLimit (Negotiate t)) (λ _ h. absurd (omega arith)) (λ _ h. absurd (omega arith))
+  turned-away (Admit t belowLimit) =
+      by-test (AtLimit (Admit t belowLimit)) (λ _ h. absurd (omega arith))
+      (λ q. by-test (AtLimit (Admit t belowLimit))
+      (λ l _. record { session = t; belowLimit = belowLimit; admit = refl; common = q; at-limit = l; is = left _ _ q ∙ taken _ _ l })
+      (λ _ h. absurd (omega arith)))
+  turned-away (Send t written) = by-test (AtLimit (Send t written)) (λ _ h. absurd (omega arith)) (λ _ h. absurd (omega arith))
+
+-- ---- where every application is below its limit, none turns a session away
+-- a set of applications has nothing but applications
+pub common-all : (s : ℕ) → s < 2 ^ applicationCount → common s allApplications ≡ s
+common-all s small =
+    ext applicationCount (common s allApplications) s (common-lt applicationCount s allApplications small) small
+    (λ k l. has-common s allApplications k ∙ ap (λ (b : Bool). has s k && b) (has-all applicationCount k l) ∙ and-true (has s k))
+
+pub all-below : (t : Session) → t .enabled < 2 ^ applicationCount → atLimit t allApplications ≡ nothingCommon t
+unfolding atLimit nothingCommon
+all-below t small = ap (λ (n : ℕ). inForce t && empty n) (common-all (negotiated t) (common-lt applicationCount (t .enabled) (t .listed) small))
+
+-- asked twice, a test is asked once
+twice : (b : Bool) (x y z : After) → pick b x (pick b y z) ≡ pick b x z
+unfolding pick
+twice true x y z = refl
+twice false x y z = refl
+
+pub admit-all : (s t : Session) → t .enabled < 2 ^ applicationCount → settled s (Admit t allApplications) ≡ settled s (Negotiate t)
+unfolding settled
+admit-all s t small = rw (all-below t small) (twice (nothingCommon t) _ _ _)
+
+-- a limit that does not turn a session away might as well not be there
+pub admit-unlimited : (s t : Session) (belowLimit : ℕ) → t .enabled < 2 ^ applicationCount → (settled s (Admit t belowLimit) .answer .outcome ≡ outcomeAtLimit → ⊥)
+    → settled s (Admit t belowLimit) ≡ settled s (Admit t allApplications)
+unfolding settled answered
+admit-unlimited s t belowLimit small =
+    let all = all-below t small in
+    pick-both Same (nothingCommon t) (λ _ _. refl)
+    (λ q. by-test (λ (z : After). Same z (pick (atLimit t allApplications) (answered s (mismatched t) outcomeAtLimit 0) (answered s t 0 0))) (λ _ f. absurd (f refl)) (λ _ _. sym (left _ _ (all ∙ q))))
+  where
+    Same : After → After → Type 0
+    Same z z′ = (z .answer .outcome ≡ outcomeAtLimit → ⊥) → z ≡ z′
+
+-- limits are asked of nothing but an Initialization in Ready
+pub not-ready : (s : Session) → isReady s ≡ false → (a : List ℕ) (b b′ : ℕ) → step s (Initialization a b) ≡ step s (Initialization a b′)
+unfolding onInitialization
+not-ready s h a b b′ = ap (λ (c : Decision). settled s (checked s c)) (left _ _ h ∙ sym (left _ _ h))
+
+-- from a session that is not Open to one that is not Open nothing is lost or gained
+pub nothing-lost : (s t : Session) (outcome : ℕ) → isOpen s ≡ false → isOpen t ≡ false
+    → answered s t outcome 0 .answer ≡ record { refusal = notRefused; outcome = outcome; lost = 0; gained = 0; written = 0 }
+unfolding answered permitted minus
+nothing-lost s t outcome h k =
+    ap₂ (λ (x y : ℕ). record { refusal = notRefused; outcome = outcome; lost = minus x y; gained = minus y x; written = 0 }) (left _ _ h) (left _ _ k)
