@@ -7,17 +7,17 @@ use Rattle.session.specs.declared.After.{After}
 use Rattle.record.specs.Carried.{Carried}
 use Rattle.choice.specs.Determined.{Determined}
 use Rattle.choice.proofs.Determined.{by-equation}
-use Rattle.record.proofs.encode.Reads as encode
-use Rattle.record.proofs.decode.Reads as decode
+use Rattle.record.proofs.stored_in.Reads as stored-in
+use Rattle.record.proofs.decoded.Reads as decoded
 use Rattle.record.proofs.carry.Reads as carry
 use Rattle.record.proofs.load.Reads as load
 use Rattle.record.proofs.store.Reads as store
 
-pub encode-determined : (κs : _) (a r r′ s s′ : _) → encode.Post κs a r s → encode.Post κs a r′ s′ → s .1 .0 .now ≡ s′ .1 .0 .now
-encode-determined κs a r r′ s s′ p q = p ∙ sym q
+pub stored-in-determined : (κs : _) (a r r′ s s′ : _) → stored-in.Post κs a r s → stored-in.Post κs a r′ s′ → s .1 .0 .now ≡ s′ .1 .0 .now
+stored-in-determined κs a r r′ s s′ p q = p ∙ sym q
 
-pub decode-determined : (κs : _) → Determined (decode.Post κs)
-decode-determined κs = by-equation _
+pub decoded-determined : (κs : _) → Determined (decoded.Post κs)
+decoded-determined κs = by-equation _
 
 -- one law for all that an event carries to a record
 pub carried-same : (after : After) (l : List ℕ) (r r′ : Answer) (k k′ : List ℕ) → Carried after l r k → Carried after l r′ k′ → (r ≡ r′) × (k ≡ k′)

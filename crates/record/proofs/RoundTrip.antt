@@ -13,12 +13,14 @@ use Rattle.choice.proofs.Branch.{taken, left, by-test}
 use Rattle.choice.proofs.Tests.{and-first, and-second}
 use Rattle.octets.specs.Octets.{leAt16}
 use Rattle.octets.proofs.Numbers.{back16, back32, two-0, two-1, four-0, four-1, four-2, four-3}
+use Rattle.refusals.specs.Refusals.{notRefused}
 use Rattle.session.specs.declared.Session.{Session}
 use Rattle.session.specs.Session.{spareZero, sound}
+use Rattle.session.specs.With.{noSession}
 use Rattle.session.proofs.SoundMeans.{sound-means}
 use Rattle.record.specs.declared.Loaded.{Loaded}
-use Rattle.record.specs.Record.{encoded, stored, headed, fields, noSession, decoded, ReadBack, StoredBack}
-use Rattle.record.specs.Loaded.{loaded, storedSound, LoadedBack, KeptAsLoaded}
+use Rattle.record.specs.Record.{recordLength, lengthField, kindField, encoded, storedIn, headed, fields, decoded, ReadBack, StoredBack}
+use Rattle.record.specs.Loaded.{load, storeOctets, LoadedBack, StaysAsLoaded}
 
 pub read-back : ReadBack
 unfolding decoded headed pick
@@ -48,13 +50,13 @@ unfolding sound spareZero
 never-sound h = false≢true h
 
 module _ (l : List ℕ) (o : (i : ℕ) → getD l i 0 < 256) where
-  again : length l ≡ 22 → headed l ≡ true → encoded (fields l) ≡ l
+  again : length l ≡ recordLength → headed l ≡ true → encoded (fields l) ≡ l
   unfolding headed
   again n h =
-      let t = and-second (eqb (leAt16 l 0) 20) _ h in
-      let h0 : leAt16 l 0 ≡ 20 = eqb-true (leAt16 l 0) 20 (and-first (eqb (leAt16 l 0) 20) _ h) in
-      let h2 : leAt16 l 2 ≡ 1 = eqb-true (leAt16 l 2) 1 (and-first (eqb (leAt16 l 2) 1) _ t) in
-      let z : getD l 13 0 ≡ 0 = eqb-true (getD l 13 0) 0 (and-second (eqb (leAt16 l 2) 1) _ t) in
+      let t = and-second (eqb (leAt16 l 0) lengthField) _ h in
+      let h0 : leAt16 l 0 ≡ lengthField = eqb-true (leAt16 l 0) lengthField (and-first (eqb (leAt16 l 0) lengthField) _ h) in
+      let h2 : leAt16 l 2 ≡ kindField = eqb-true (leAt16 l 2) kindField (and-first (eqb (leAt16 l 2) kindField) _ t) in
+      let z : getD l 13 0 ≡ 0 = eqb-true (getD l 13 0) 0 (and-second (eqb (leAt16 l 2) kindField) _ t) in
       let o0 = o 0 in
       let o1 = o 1 in
       let o2 = o 2 in
@@ -63,7 +65,7 @@ module _ (l : List ℕ) (o : (i : ℕ) → getD l i 0 < 256) where
       let g1 : getD l 1 0 ≡ 0 = omega arith in
       let g2 : getD l 2 0 ≡ 1 = omega arith in
       let g3 : getD l 3 0 ≡ 0 = omega arith in
-      let e : encoded (fields l) ≡ upto 22 (λ i. getD l i 0) =
+      let e : encoded (fields l) ≡ upto recordLength (λ i. getD l i 0) =
       simp (
         g0,
         g1,
@@ -90,27 +92,27 @@ module _ (l : List ℕ) (o : (i : ℕ) → getD l i 0 < 256) where
 
 pub stored-back : StoredBack
 unfolding decoded
-stored-back l o ok = go (eqb (length l) 22) refl (headed l) refl
+stored-back l o ok = go (eqb (length l) recordLength) refl (headed l) refl
   where
     none : decoded l ≡ noSession → encoded (decoded l) ≡ l
     none e = absurd (never-sound (subst (λ (s : Session). sound s ≡ true) e ok))
 
-    go : (x : Bool) → eqb (length l) 22 ≡ x → (y : Bool) → headed l ≡ y → encoded (decoded l) ≡ l
+    go : (x : Bool) → eqb (length l) recordLength ≡ x → (y : Bool) → headed l ≡ y → encoded (decoded l) ≡ l
     go false e y f = none (left _ noSession e)
     go true e false f = none (taken _ noSession e ∙ left (fields l) noSession f)
-    go true e true f = ap encoded (taken _ noSession e ∙ taken (fields l) noSession f) ∙ again l o (eqb-true (length l) 22 e) f
+    go true e true f = ap encoded (taken _ noSession e ∙ taken (fields l) noSession f) ∙ again l o (eqb-true (length l) recordLength e) f
 
 -- ---- in and out of a row
 pub loaded-back : LoadedBack
-unfolding loaded storedSound stored
+unfolding load storeOctets storedIn
 loaded-back s l h hello next long =
-    let kept : storedSound s l ≡ encoded s = taken _ _ h ∙ taken _ _ (eq-eqb (length l) 22 long) in
-    let back : decoded (storedSound s l) ≡ s = ap decoded kept ∙ read-back s h hello next in
-    taken _ _ (ap sound back ∙ h) ∙ ap (λ (t : Session). record { refusal = 0; session = t }) back
+    let kept : storeOctets s l ≡ encoded s = taken _ _ h ∙ taken _ _ (eq-eqb (length l) recordLength long) in
+    let back : decoded (storeOctets s l) ≡ s = ap decoded kept ∙ read-back s h hello next in
+    taken _ _ (ap sound back ∙ h) ∙ ap (λ (t : Session). record { refusal = notRefused; session = t }) back
 
-pub kept-as-loaded : KeptAsLoaded
-unfolding loaded storedSound stored
-kept-as-loaded l octets h =
-    let there : loaded l .session ≡ decoded l = ap (λ (t : Loaded). t .session) (taken _ _ h) in
-    ap (λ (t : Session). storedSound t l) there ∙ taken _ _ h
+pub stays-as-loaded : StaysAsLoaded
+unfolding load storeOctets storedIn
+stays-as-loaded l octets h =
+    let there : load l .session ≡ decoded l = ap (λ (t : Loaded). t .session) (taken _ _ h) in
+    ap (λ (t : Session). storeOctets t l) there ∙ taken _ _ h
     ∙ by-test (λ (m : List ℕ). m ≡ l) (λ _. stored-back l octets h) (λ _. refl)

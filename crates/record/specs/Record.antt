@@ -1,6 +1,6 @@
 -- Stored record: "22 octets, little-endian: length 20 (2), kind 1 (2), state (1), flags (1), enabled (2), listed (2), protected kinds (2),
 -- disabled (1), zero (1), Hello number (4), next message number (4)". Assumes nothing.
-use Prim.Native.Nat.{ℕ, _<_, _^_}
+use Prim.Native.Nat.{ℕ, _-_, _<_, _^_}
 use mathlib.Core.Path.{_≡_}
 use mathlib.Core.Bool.{Bool, true, _&&_}
 use mathlib.Core.List.{List, _∷_, _++_}
@@ -10,23 +10,34 @@ use Rattle.choice.specs.Pick.{pick}
 use Rattle.octets.specs.Octets.{le16, le32, leAt16, leAt32}
 use Rattle.session.specs.declared.Session.{Session}
 use Rattle.session.specs.Session.{sound}
+use Rattle.session.specs.With.{noSession}
+
+abbrev pub recordLength : ℕ
+recordLength = 22
+
+-- what its first two fields hold: the length of what follows the first, and the kind of record
+abbrev pub lengthField : ℕ
+lengthField = recordLength - 2
+
+abbrev pub kindField : ℕ
+kindField = 1
 
 -- the record of a session
 abbrev pub encoded : Session → List ℕ
 encoded s =
-    le16 20
-    ++ (le16 1
+    le16 lengthField
+    ++ (le16 kindField
     ++ (s .state
     ∷ s .flags
     ∷ (le16 (s .enabled) ++ (le16 (s .listed) ++ (le16 (s .protects) ++ (s .disabled ∷ 0 ∷ (le32 (s .hello) ++ le32 (s .next))))))))
 
 -- a lent record with a session stored in it; one that is not of 22 octets stays as it was
-unfoldable pub stored : Session → List ℕ → List ℕ
-stored s l = pick (eqb (length l) 22) (encoded s) l
+unfoldable pub storedIn : Session → List ℕ → List ℕ
+storedIn s l = pick (eqb (length l) recordLength) (encoded s) l
 
 -- "length, kind as above" and the zero octet
 unfoldable pub headed : List ℕ → Bool
-headed l = eqb (leAt16 l 0) 20 && (eqb (leAt16 l 2) 1 && eqb (getD l 13 0) 0)
+headed l = eqb (leAt16 l 0) lengthField && (eqb (leAt16 l 2) kindField && eqb (getD l 13 0) 0)
 
 -- the fields
 abbrev pub fields : List ℕ → Session
@@ -42,13 +53,9 @@ fields l =
       next = leAt32 l 18;
     }
 
--- what a record with another length, kind or zero octet is read as: no session, since 255 is no state
-abbrev pub noSession : Session
-noSession = record { state = 255; flags = 0; disabled = 0; enabled = 0; listed = 0; protects = 0; hello = 0; next = 0 }
-
--- the session of a record
+-- the session of a record; one with another length, kind or zero octet holds none
 unfoldable pub decoded : List ℕ → Session
-decoded l = pick (eqb (length l) 22) (pick (headed l) (fields l) noSession) noSession
+decoded l = pick (eqb (length l) recordLength) (pick (headed l) (fields l) noSession) noSession
 
 -- "Our records, read back, give what was written": a sound session is read back as it was stored
 abbrev pub ReadBack : Type 0

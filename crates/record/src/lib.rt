@@ -3,8 +3,8 @@ ghost use mathlib.Core.Path.{_≡_};
 ghost use Prim.Native.Nat.{_<_};
 ghost use lib.ListN.{length};
 ghost use Rattle.record.specs.Carried.{Carried};
-ghost use Rattle.record.specs.Loaded.{loaded, storeRefusal, storedSound};
-ghost use Rattle.record.specs.Record.{encoded, stored, headed, fields, noSession, decoded};
+ghost use Rattle.record.specs.Loaded.{load, storeRefusal, storeOctets};
+ghost use Rattle.record.specs.Record.{encoded, storedIn, headed, fields, decoded};
 use session::After;
 use session::Answer;
 use session::Session;
@@ -19,7 +19,12 @@ pub struct Loaded {
 // How many octets a record has.
 pub const LENGTH: usize = 22;
 
-fn octets_of(s: Session) -> [u8; 22]
+// What the first two fields of a record hold.
+const LENGTH_FIELD: u16 = LENGTH as u16 - 2;
+
+const KIND_FIELD: u16 = 1;
+
+fn encoded(s: Session) -> [u8; LENGTH]
     ensures { λ r. ⌜ r ≡ encoded s ⌝ }
 {
     let enabled = s.enabled;
@@ -28,10 +33,10 @@ fn octets_of(s: Session) -> [u8; 22]
     let hello = s.hello;
     let next = s.next;
     [
-        20,
-        0,
-        1,
-        0,
+        (LENGTH_FIELD % 256) as u8,
+        (LENGTH_FIELD / 256 % 256) as u8,
+        (KIND_FIELD % 256) as u8,
+        (KIND_FIELD / 256 % 256) as u8,
         s.state,
         s.flags,
         (enabled % 256) as u8,
@@ -54,38 +59,38 @@ fn octets_of(s: Session) -> [u8; 22]
 }
 
 // Stores the session in a record of exactly 22 octets; any other stays as it was.
-pub fn encode(s: Session, kept: &mut [u8])
-    ensures { λ _. ⌜ now (kept .exit) ≡ stored s (now (kept .entry)) ⌝ }
+pub fn stored_in(s: Session, lent: &mut [u8])
+    ensures { λ _. ⌜ now (lent .exit) ≡ storedIn s (now (lent .entry)) ⌝ }
 {
-    if kept.len() != LENGTH {
+    if lent.len() != LENGTH {
         return;
     }
-    let octets = octets_of(s);
-    octets::put(kept, &octets);
+    let octets = encoded(s);
+    octets::put(lent, &octets);
 }
 
 // Length, kind and the zero octet as they must be.
-fn headed(kept: &[u8]) -> bool
-    requires { ⌜ 21 < length (now kept) ⌝ }
-    ensures { λ r. ⌜ r ≡ headed (now (kept .entry)) ⌝ }
+fn headed(lent: &[u8]) -> bool
+    requires { ⌜ 21 < length (now lent) ⌝ }
+    ensures { λ r. ⌜ r ≡ headed (now (lent .entry)) ⌝ }
 {
-    let kind = (octets::read16(kept, 2) == 1) & (kept[13] == 0);
-    (octets::read16(kept, 0) == 20) & kind
+    let kind = (octets::read16(lent, 2) == KIND_FIELD) & (lent[13] == 0);
+    (octets::read16(lent, 0) == LENGTH_FIELD) & kind
 }
 
-fn fields(kept: &[u8]) -> Session
-    requires { ⌜ 21 < length (now kept) ⌝ }
-    ensures { λ r. ⌜ r ≡ fields (now (kept .entry)) ⌝ }
+fn fields(lent: &[u8]) -> Session
+    requires { ⌜ 21 < length (now lent) ⌝ }
+    ensures { λ r. ⌜ r ≡ fields (now (lent .entry)) ⌝ }
 {
-    let enabled = octets::read16(kept, 6);
-    let listed = octets::read16(kept, 8);
-    let protects = octets::read16(kept, 10);
-    let hello = octets::read32(kept, 14);
-    let next = octets::read32(kept, 18);
+    let enabled = octets::read16(lent, 6);
+    let listed = octets::read16(lent, 8);
+    let protects = octets::read16(lent, 10);
+    let hello = octets::read32(lent, 14);
+    let next = octets::read32(lent, 18);
     Session {
-        state: kept[4],
-        flags: kept[5],
-        disabled: kept[12],
+        state: lent[4],
+        flags: lent[5],
+        disabled: lent[12],
         enabled,
         listed,
         protects,
@@ -94,74 +99,59 @@ fn fields(kept: &[u8]) -> Session
     }
 }
 
-fn no_session() -> Session
-    ensures { λ r. ⌜ r ≡ noSession ⌝ }
-{
-    Session {
-        state: 255,
-        flags: 0,
-        disabled: 0,
-        enabled: 0,
-        listed: 0,
-        protects: 0,
-        hello: 0,
-        next: 0,
-    }
-}
-
 // The session of a record. One with another length, kind or zero octet gives a session that is not sound, so every event refuses it with 10.
-pub fn decode(kept: &[u8]) -> Session
-    ensures { λ r. ⌜ r ≡ decoded (now (kept .entry)) ⌝ }
+pub fn decoded(lent: &[u8]) -> Session
+    ensures { λ r. ⌜ r ≡ decoded (now (lent .entry)) ⌝ }
 {
-    if kept.len() == LENGTH {
-        if headed(kept) {
-            return fields(kept);
+    if lent.len() == LENGTH {
+        if headed(lent) {
+            return fields(lent);
         }
-        return no_session();
+        return Session::none();
     }
-    no_session()
+    Session::none()
 }
 
 // Stores the session after an event, unless it was refused, and answers.
-pub fn carry(kept: &mut [u8], after: After) -> Answer
-    ensures { λ r. ⌜ Carried after (now (kept .entry)) r (now (kept .exit)) ⌝ }
+pub fn carry(lent: &mut [u8], after: After) -> Answer
+    ensures { λ r. ⌜ Carried after (now (lent .entry)) r (now (lent .exit)) ⌝ }
 {
     let answer = after.answer;
     let session = after.session;
-    if answer.refusal == 0 {
-        encode(session, kept);
+    if answer.refusal == refusals::NOT_REFUSED {
+        stored_in(session, lent);
         return answer;
     }
     answer
 }
 
 // The session of a sound record; of any other, 10 and no session.
-pub fn load(kept: &[u8]) -> Loaded
-    ensures { λ r. ⌜ r ≡ loaded (now (kept .entry)) ⌝ }
+pub fn load(lent: &[u8]) -> Loaded
+    ensures { λ r. ⌜ r ≡ load (now (lent .entry)) ⌝ }
 {
-    let session = decode(kept);
+    let session = decoded(lent);
     if session.sound() {
         return Loaded {
-            refusal: 0,
+            refusal: refusals::NOT_REFUSED,
             session,
         };
     }
     Loaded {
-        refusal: 10,
-        session: no_session(),
+        refusal: refusals::NOT_SOUND,
+        session: Session::none(),
     }
 }
 
 // Stores a sound session in a record of 22 octets, or answers 10.
-pub fn store(s: Session, kept: &mut [u8]) -> u8
-    ensures { λ r. ⌜ (r ≡ storeRefusal s (now (kept .entry))) × (now (kept .exit) ≡ storedSound s (now (kept .entry))) ⌝ }
+pub fn store(s: Session, lent: &mut [u8]) -> u8
+    ensures { λ r. ⌜ (r ≡ storeRefusal s (now (lent .entry))) × (now (lent .exit) ≡ storeOctets s (now (lent .entry))) ⌝ }
 {
     if s.sound() {
-        if kept.len() == LENGTH {
-            encode(s, kept);
-            return 0;
+        if lent.len() == LENGTH {
+            stored_in(s, lent);
+            return refusals::NOT_REFUSED;
         }
-        return 10;
+        return refusals::NOT_SOUND;
     }
-    10
+    refusals::NOT_SOUND
 }

@@ -10,10 +10,10 @@ use contract.Monad.{Fun, fact, factI, fact-use}
 use Rattle.choice.specs.Determined.{Determined}
 use Rattle.choice.proofs.Determined.{by-equation}
 use Rattle.row.proofs.Limits.none.Reads as none
-use Rattle.row.proofs.Limits.with.Reads as with-limit
-use Rattle.row.proofs.Tally.nothing.Reads as nothing
+use Rattle.row.proofs.Limits.limited.Reads as limited
+use Rattle.row.proofs.Tally.empty.Reads as empty
 use Rattle.row.proofs.Tally.tally.Reads as tally
-use Rattle.row.proofs.Tally.count.Reads as count
+use Rattle.row.proofs.Tally.count_by.Reads as count-by
 use Rattle.row.proofs.event_in.Reads as event-in
 use Rattle.row.proofs.outside.Reads as outside
 use Rattle.row.proofs.uncounted.Reads as uncounted
@@ -22,17 +22,17 @@ use Rattle.row.proofs.tally_of as tally-of
 pub none-determined : Determined (none.Post tt)
 none-determined = by-equation _
 
-pub with-determined : Determined (with-limit.Post tt)
-with-determined = by-equation _
+pub limited-determined : Determined (limited.Post tt)
+limited-determined = by-equation _
 
-pub nothing-determined : Determined (nothing.Post tt)
-nothing-determined = by-equation _
+pub empty-determined : Determined (empty.Post tt)
+empty-determined = by-equation _
 
 pub tally-determined : Determined (tally.Post tt)
 tally-determined = by-equation _
 
-pub count-determined : Determined (count.Post tt)
-count-determined = by-equation _
+pub count-by-determined : Determined (count-by.Post tt)
+count-by-determined = by-equation _
 
 pub outside-determined : Determined (outside.Post tt)
 outside-determined = by-equation _

@@ -1,4 +1,4 @@
-pub mod Limits
-pub mod Event
+pub mod Limiting
+pub mod Events
 pub mod Row
-pub mod Tally
+pub mod Counting

@@ -1,14 +1,17 @@
-// An event of one session among the others.
+// An event as numbers, and what it makes of a session.
 ghost use mathlib.Core.Path.{_≡_};
-ghost use lib.ListN.{length};
-ghost use Rattle.session.specs.Events.{refused, checked};
-ghost use Rattle.row.specs.Event.{told, happens, writes};
-use crate::Event;
+ghost use Rattle.session.specs.Events.{step};
+ghost use Rattle.row.specs.Events.{eventOf, messageIn};
+ghost use Rattle.row.specs.Counting.{decidedBy};
+use crate::EventNumbers;
+use crate::Limits;
+use crate::Tally;
 use kinds::TaId;
+use message::Message;
 use session::After;
 use session::Session;
 
-impl Event {
+impl EventNumbers {
     const INITIALIZATION: u32 = 0;
 
     const CAPABILITY: u32 = 1;
@@ -20,23 +23,20 @@ impl Event {
     const HELLO: u32 = 4;
 
     const CLOSED: u32 = 5;
-}
 
-// An event that is for no state.
-fn unknown(s: Session) -> After
-    ensures { λ r. ⌜ r ≡ checked s (refused s 7) ⌝ }
-{
-    if s.sound() {
-        return s.refused(7);
-    }
-    s.refused(10)
-}
-
-impl Event {
-    // What an event without octets makes of the session.
-    fn told(self, s: Session) -> After
-        ensures { λ r. ⌜ r ≡ told self s ⌝ }
+    // What the event makes of the session, told the applications that are below their limit and how many octets of room there are.
+    fn apply(self, s: Session, below_limit: u16, area: &[u8], room: usize) -> After
+        ensures { λ r. ⌜ r ≡ step s (eventOf self «below_limit» (now (area .entry)) room) ⌝ }
     {
+        if self.which == Self::INITIALIZATION {
+            return s.initialization(area, below_limit);
+        }
+        if self.which == Self::CAPABILITY {
+            return s.capability(area);
+        }
+        if self.which == Self::LOCAL_CHANGE {
+            return s.local_change(TaId(self.ta_id), self.on != 0, room);
+        }
         if self.which == Self::MISMATCH {
             return s.mismatch();
         }
@@ -46,22 +46,37 @@ impl Event {
         if self.which == Self::CLOSED {
             return s.closed();
         }
-        unknown(s)
+        s.unknown()
     }
 
-    // What the event makes of the session, told the applications that are under their limit.
-    pub(crate) fn happens(self, s: Session, under: u16, area: &[u8], room: &mut [u8]) -> After
-        ensures { λ r. ⌜ (r ≡ happens self s under (now (area .entry)) (length (now (room .entry)))) × (now (room .exit) ≡ writes self s (now (room .entry))) ⌝ }
+    // The message that it may write: only a local change writes.
+    pub(crate) fn message_in(self, s: Session) -> Message
+        ensures { λ r. ⌜ r ≡ messageIn self s ⌝ }
     {
-        if self.which == Self::INITIALIZATION {
-            return s.limited_initialization(area, under);
-        }
-        if self.which == Self::CAPABILITY {
-            return s.capability(area);
-        }
         if self.which == Self::LOCAL_CHANGE {
-            return s.local_change(TaId(self.ta_id), self.on != 0, room);
+            return Message::Change {
+                number: s.next,
+                ta_id: self.ta_id,
+                on: self.on != 0,
+            };
         }
-        self.told(s)
+        Message::NoMessage
+    }
+
+    // The event of one session of the row, by what the pass over all of them found.
+    pub(crate) fn decided_by(
+        self,
+        s: Session,
+        tally: Tally,
+        limits: Limits,
+        area: &[u8],
+        room: usize,
+    ) -> After
+        ensures { λ r. ⌜ r ≡ decidedBy s tally self limits (now (area .entry)) room ⌝ }
+    {
+        if tally.sound {
+            return self.apply(s, tally.below_limit_by(limits), area, room);
+        }
+        s.refused(refusals::NOT_SOUND)
     }
 }

@@ -2,9 +2,10 @@
 // which is lent the row, as the C calls are.
 ghost use mathlib.Core.Path.{_≡_};
 ghost use lib.ListN.{length};
-ghost use Rattle.session.specs.Events.{refused};
-ghost use Rattle.row.specs.Row.{nobody, notCounted};
-ghost use Rattle.row.specs.Tally.{nothing, tallied, eventIn, roomIn};
+ghost use Rattle.refusals.specs.Refusals.{outsideRow};
+ghost use Rattle.row.specs.Row.{outside, notCounted};
+ghost use Rattle.row.specs.Counting.{emptyTally, tallied, decidedBy, roomBy};
+use kinds::TaId;
 use session::After;
 use session::Answer;
 use session::Session;
@@ -13,10 +14,16 @@ mod counting;
 mod events;
 mod limiting;
 
+// How many applications there are: a limit and a count for each.
+const APPLICATIONS: usize = TaId::COUNT as usize;
+
+// How many sessions a row may have.
+pub const MOST_SESSIONS: usize = 64;
+
 // Limits by application: TA-Id n at place n - 1.
 #[repr(C)]
 pub struct Limits {
-    pub each: [u8; 13],
+    pub each: [u8; APPLICATIONS],
 }
 
 // The limits with one of them set, or why not.
@@ -35,7 +42,7 @@ pub struct Count {
 
 // An event as numbers: which of the six, and what a local change and a Hello bring.
 #[repr(C)]
-pub struct Event {
+pub struct EventNumbers {
     pub which: u32,
     pub ta_id: u32,
     pub on: u32,
@@ -45,54 +52,52 @@ pub struct Event {
 // What one pass over a row finds: whether all are sound, and how many use each application.
 pub struct Tally {
     pub sound: bool,
-    pub counts: [u8; 13],
+    pub counts: [u8; APPLICATIONS],
 }
 
-// The event of one session of the row, by what the pass over all of them found.
+// The event of one session of the row, decided by what the pass over all of them found, and then what it writes.
 pub fn event_in(
     s: Session,
     tally: Tally,
-    event: Event,
+    event: EventNumbers,
     limits: Limits,
     area: &[u8],
     room: &mut [u8],
 ) -> After
-    ensures { λ r. ⌜ (r ≡ eventIn s tally event limits (now (area .entry)) (length (now (room .entry)))) × (now (room .exit) ≡ roomIn s tally event (now (room .entry))) ⌝ }
+    ensures { λ r. ⌜ (r ≡ decidedBy s tally event limits (now (area .entry)) (length (now (room .entry)))) × (now (room .exit) ≡ roomBy s tally event limits (now (area .entry)) (now (room .entry))) ⌝ }
 {
-    if tally.sound {
-        return event.happens(s, tally.under(limits), area, room);
-    }
-    s.refused(10)
+    let after = event.decided_by(s, tally, limits, area, room.len());
+    message::write(room, after.answer.written, event.message_in(s));
+    after
 }
 
 // The answer where there is no such session: the number is outside the row, or the row is none.
 pub fn outside() -> Answer
-    ensures { λ r. ⌜ r ≡ refused nobody 11 .answer ⌝ }
+    ensures { λ r. ⌜ r ≡ outside ⌝ }
 {
-    Answer {
-        refusal: 11,
-        outcome: 0,
-        lost: 0,
-        gained: 0,
-        written: 0,
-    }
+    let after = Session::none().refused(refusals::OUTSIDE_ROW);
+    after.answer
+}
+
+// No count, and why.
+fn not_counted(refusal: u8) -> Count
+    ensures { λ r. ⌜ r ≡ notCounted refusal ⌝ }
+{
+    Count { refusal, count: 0 }
 }
 
 // The count where the row is none.
 pub fn uncounted() -> Count
-    ensures { λ r. ⌜ r ≡ notCounted 11 ⌝ }
+    ensures { λ r. ⌜ r ≡ notCounted outsideRow ⌝ }
 {
-    Count {
-        refusal: 11,
-        count: 0,
-    }
+    not_counted(refusals::OUTSIDE_ROW)
 }
 
 // The pass over the row, which is the only loop over one.
 pub fn tally_of(row: &[Session]) -> Tally
-    ensures { λ r. ⌜ r ≡ tallied nothing (now (row .entry)) ⌝ }
+    ensures { λ r. ⌜ r ≡ tallied emptyTally (now (row .entry)) ⌝ }
 {
-    let mut tally = Tally::nothing();
+    let mut tally = Tally::empty();
     let mut k = 0;
     while k < row.len() {
         tally = tally.tally(row[k]);

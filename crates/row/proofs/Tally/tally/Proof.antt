@@ -1,5 +1,5 @@
 -- `Tally::tally` meets its contract: by what its calls promise. Assumes nothing.
-use Rattle.row.specs.Tally.{tally}
+use Rattle.row.specs.Counting.{tally}
 use borrow.Author.Needs.{needs}
 use Rattle.row.proofs.Tally.tally.Statement.{statement}
 use Rattle.row.proofs.Tally.tally.Tie as tie

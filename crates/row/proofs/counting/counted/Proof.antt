@@ -1,18 +1,19 @@
 -- `row::counted` meets its contract: the loop's invariant: the first k counts are brought up to date. Assumes nothing.
+use Rattle.kinds.specs.Kinds.{applicationCount}
 use mathlib.Core.Path.{_≡_, refl}
 use Prim.Native.Nat.{_≤_, _-_}
 use native.Mathlib.Omega.{arith}
 use borrow.Author.Needs.{needs}
-use Rattle.row.specs.Tally.{counted}
+use Rattle.row.specs.Counting.{counted}
 use Rattle.row.proofs.Tallied.{counted-more}
 use Rattle.row.proofs.counting.counted.Statement.{statement}
 use Rattle.row.proofs.counting.counted.Tie as tie
 
 abbrev Inv-loop : tie.InvT-loop
-Inv-loop applications counts out₀ k₀ out k = (k ≤ 13) × (out ≡ counted counts applications k)
+Inv-loop applications counts out₀ k₀ out k = (k ≤ applicationCount) × (out ≡ counted counts applications k)
 
 abbrev μ-loop : tie.MeasureT-loop
-μ-loop applications counts out₀ k₀ out k = 13 - k
+μ-loop applications counts out₀ k₀ out k = applicationCount - k
 
 loop-holds : tie.Need-loop-holds Inv-loop μ-loop
 unfolding counted
@@ -44,7 +45,7 @@ loop-again c = (omega arith, simp (c .more .ensures, c .before .has .ensures, c 
 
 returns : tie.Need-returns Inv-loop μ-loop
 returns c = let l = c .before .loop in
-    let e : l .k ≡ 13 = omega arith in
+    let e : l .k ≡ applicationCount = omega arith in
     rw e at (l .inv .1)
 
 pub counted-spec : {M : Type 1} → statement M

@@ -1,15 +1,16 @@
 -- `row::more` meets its contract: each return by the tests that led there. Assumes nothing.
+use Rattle.row.specs.Limiting.{mostSessions}
 use native.Mathlib.Omega.{arith}
 use lib.Dec.{ltb}
 use borrow.Author.Tests.{ltb-true}
 use Rattle.choice.proofs.Branch.{pick-true, pick-false}
 use Rattle.choice.proofs.Tests.{and-second}
-use Rattle.row.specs.Tally.{more}
+use Rattle.row.specs.Counting.{more}
 use Rattle.row.proofs.counting.more.Statement.{statement}
 use Rattle.row.proofs.counting.more.Tie as tie
 
 add-result : tie.Need-add-result
-add-result c = omega (arith, ltb-true (c .before .args .n) 64 (and-second (c .before .args .on) (ltb (c .before .args .n) 64) (c .if1 .taken)))
+add-result c = omega (arith, ltb-true (c .before .args .n) mostSessions (and-second (c .before .args .on) (ltb (c .before .args .n) mostSessions) (c .if1 .taken)))
 
 returns : tie.Need-returns
 unfolding more

@@ -1,7 +1,7 @@
 -- `row::capped` meets its contract: each return by the tests that led there. Assumes nothing.
 use borrow.Author.Tests.{le-leb, lt-leb}
 use Rattle.choice.proofs.Branch.{pick-true, pick-false}
-use Rattle.row.specs.Limits.{capped}
+use Rattle.row.specs.Limiting.{capped}
 use Rattle.row.proofs.limiting.capped.Statement.{statement}
 use Rattle.row.proofs.limiting.capped.Tie as tie
 

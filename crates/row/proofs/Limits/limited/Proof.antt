@@ -1,13 +1,13 @@
--- `Limits::with` meets its contract: each return by the tests that led there. Assumes nothing.
+-- `Limits::limited` meets its contract: each return by the tests that led there. Assumes nothing.
 use mathlib.Core.Path.{sym, _∙_}
 use native.Mathlib.Omega.{arith}
 use borrow.Author.Tests.{le-leb, lt-leb}
 use Rattle.choice.proofs.Branch.{pick-true, pick-false}
 use Rattle.sets.proofs.Switches.{numbered-is}
-use Rattle.row.specs.Limits.{limited}
+use Rattle.row.specs.Limiting.{limited}
 use borrow.Author.Needs.{needs}
-use Rattle.row.proofs.Limits.with.Statement.{statement}
-use Rattle.row.proofs.Limits.with.Tie as tie
+use Rattle.row.proofs.Limits.limited.Statement.{statement}
+use Rattle.row.proofs.Limits.limited.Tie as tie
 
 is-known-requires : tie.Need-is-known-requires
 is-known-requires c κs = search needs
@@ -36,8 +36,8 @@ returns-3 : tie.Need-returns-3
 unfolding limited
 returns-3 c = simp (sym (c .before .is-known .ensures) ∙ c .if1 .left, pick-false)
 
-pub with-spec : {M : Type 1} → statement M
-with-spec =
+pub limited-spec : {M : Type 1} → statement M
+limited-spec =
     tie.close
     (tie.spec
     is-known-requires

@@ -1,4 +1,5 @@
--- `Tally::under` meets its contract: the loop's invariant: of the applications 1 to k, those that are under their limit. Assumes nothing.
+-- `Tally::below_limit_by` meets its contract: the loop's invariant: of the applications 1 to k, those that are belowLimitBy their limit. Assumes nothing.
+use Rattle.kinds.specs.Kinds.{applicationCount}
 use Prim.Native.Nat.{_+_}
 use mathlib.Core.Path.{_≡_, refl, sym}
 use Prim.Native.Nat.{_≤_, _-_}
@@ -6,15 +7,15 @@ use native.Mathlib.Omega.{arith}
 use borrow.Author.Needs.{needs}
 use Rattle.sets.specs.Set.{chosen}
 use Rattle.sets.proofs.Chosen.{chosen-more}
-use Rattle.row.specs.Tally.{below, under}
-use Rattle.row.proofs.Tally.under.Statement.{statement}
-use Rattle.row.proofs.Tally.under.Tie as tie
+use Rattle.row.specs.Counting.{isBelow, belowLimitBy}
+use Rattle.row.proofs.Tally.below_limit_by.Statement.{statement}
+use Rattle.row.proofs.Tally.below_limit_by.Tie as tie
 
 abbrev Inv-loop : tie.InvT-loop
-Inv-loop counts each out₀ k₀ out k = (k ≤ 13) × (out ≡ chosen 13 (below counts each) k)
+Inv-loop counts each out₀ k₀ out k = (k ≤ applicationCount) × (out ≡ chosen applicationCount (isBelow counts each) k)
 
 abbrev μ-loop : tie.MeasureT-loop
-μ-loop counts each out₀ k₀ out k = 13 - k
+μ-loop counts each out₀ k₀ out k = applicationCount - k
 
 loop-holds : tie.Need-loop-holds Inv-loop μ-loop
 unfolding chosen
@@ -26,8 +27,8 @@ array-read-capped c = omega arith
 capped-requires : tie.Need-capped-requires Inv-loop μ-loop
 capped-requires c κs = search needs
 
-array-read-is-under : tie.Need-array-read-is-under Inv-loop μ-loop
-array-read-is-under c = omega arith
+array-read-is-below : tie.Need-array-read-is-below Inv-loop μ-loop
+array-read-is-below c = omega arith
 
 cast-t15 : tie.Need-cast-t15 Inv-loop μ-loop
 cast-t15 c = omega arith
@@ -51,13 +52,13 @@ loop-again c =
     (omega arith, rw (chosen-more, place, sym (c .before .capped .ensures), sym (l .inv .1)) (c .switched .ensures))
 
 returns : tie.Need-returns Inv-loop μ-loop
-unfolding under
+unfolding belowLimitBy
 returns c = let l = c .before .loop in
-    let e : l .k ≡ 13 = omega arith in
+    let e : l .k ≡ applicationCount = omega arith in
     rw e at (l .inv .1)
 
-pub under-spec : {M : Type 1} → statement M
-under-spec =
+pub below-limit-by-spec : {M : Type 1} → statement M
+below-limit-by-spec =
     tie.close
     (tie.spec
     Inv-loop
@@ -65,7 +66,7 @@ under-spec =
     loop-holds
     array-read-capped
     capped-requires
-    array-read-is-under
+    array-read-is-below
     cast-t15
     add-t16
     switched-requires

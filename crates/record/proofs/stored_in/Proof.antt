@@ -1,0 +1,45 @@
+-- `record::stored_in` meets its contract: 22 octets over 22 leave nothing of what was there. Assumes nothing.
+use Prim.Native.Nat.{ℕ}
+use mathlib.Core.Path.{sym, ap, _∙_}
+use mathlib.Core.List.{List, _++_}
+use native.Mathlib.Omega.{arith}
+use lib.ListN.{length, drop-of-length-le}
+use borrow.Author.Tests.{eq-eqb, ne-eqb, le-leb}
+use Rattle.choice.proofs.Branch.{taken, left}
+use Rattle.octets.specs.Octets.{over}
+use Rattle.record.specs.Record.{encoded, storedIn}
+use borrow.Author.Needs.{needs}
+use Rattle.record.proofs.stored_in.Statement.{statement}
+use Rattle.record.proofs.stored_in.Tie as tie
+
+returns : tie.Need-returns
+unfolding storedIn
+returns c = sym (left _ _ (ne-eqb _ _ (c .if1 .taken)))
+
+encoded-requires : tie.Need-encoded-requires
+encoded-requires c κs = search needs
+
+slice-aggregate-put : tie.Need-slice-aggregate-put
+slice-aggregate-put c = search needs
+
+put-requires : tie.Need-put-requires
+put-requires c κs = search needs
+
+same-length : tie.Need-same-length
+same-length c = search needs
+
+returns-2 : tie.Need-returns-2
+unfolding storedIn over
+returns-2 c =
+    let a = c .before .before .before .before .before .before .before .before .args in
+    let n = c .before .before .before .before .before .before .if1 .left in
+    c .before .before .put .ensures
+    ∙ ap (λ (l : List ℕ). over l (a .lent .now)) (c .before .before .before .before .before .encoded .ensures)
+    ∙ taken _ _ (le-leb 22 (length (a .lent .now)) (omega arith))
+    ∙ ap (λ (l : List ℕ). encoded (a .s) ++ l) (drop-of-length-le (a .lent .now) {i = 22} (omega arith))
+    ∙ sym (taken (encoded (a .s)) (a .lent .now) (eq-eqb (length (a .lent .now)) 22 n))
+
+pub stored-in-spec : {M : Type 1} → statement M
+stored-in-spec =
+    tie.close
+    (tie.spec returns encoded-requires slice-aggregate-put put-requires same-length returns-2)
