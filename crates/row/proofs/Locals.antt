@@ -29,7 +29,7 @@ use prog.Wp.{Heap, Env, Calls, Loops, Wp, WpFn, alloc, params, pass, release, at
 use ghost.Atoms.{Atoms, sem}
 use denote.Steps as Steps
 use types.Kit.{Given, Item, ‵, raw, _⊛_, some, given, later, mean, ⋆, nth, put, push, pop, ⊢++, ++⊢, Post, post, atRet, Goal, prop, runs, lands, frees, aim, Seq, Step, step, _$_, _∵_, !, qed, move, split, join, rewrite, frame, done}
-use types.Run.{Opd, Rv, Writes, look, init, store, stop, fld, from, load, land, assigns, returns-within}
+use types.Run.{Reads, Writes, Opd, Rv, look, init, store, stop, fld, from, load, land, assigns, returns-within}
 use types.Part.{Part, whole, sub, look-in}
 
 -- ---- what locals hold
@@ -254,33 +254,33 @@ module _ {M : Type 1} {𝓤 : URA M} {H : Heap 𝓤} {A : Atoms 𝓤} {K : Type 
   unfolding WpFn
   enters t C Λ f vs Kf fit k = record {
     prf = allocated 𝓤 H A W (f .locals) (⋆ 𝓤 H A Γ) (λ E. params 𝓤 H E vs (Wp 𝓤 H C Λ E (f .body) (atReturn 𝓤 H E Kf))) (λ bs.
-      via 𝓤 (sep 𝓤 (sep 𝓤 (⋆ 𝓤 H A Γ) (sem 𝓤 H A (dying (env (f .locals) bs)))) (cells 𝓤 H A W (env (f .locals) bs) nothing))
-      (qed W (raw (⋆ 𝓤 H A Γ) ∷ raw (cells 𝓤 H A W (env (f .locals) bs) nothing) ∷ ‵ (dying (env (f .locals) bs)) ∷ []) ∵ move ! (0 ∷ 2 ∷ []) $ join ! $ done !)
-      (stored 𝓤 H A W (f .locals) vs bs fit (sep 𝓤 (⋆ 𝓤 H A Γ) (sem 𝓤 H A (dying (env (f .locals) bs)))) (Wp 𝓤 H C Λ (env (f .locals) bs) (f .body) (atReturn 𝓤 H (env (f .locals) bs) Kf))
-      (via 𝓤 (sep 𝓤 (⋆ 𝓤 H A Γ) (sep 𝓤 (cells 𝓤 H A W (env (f .locals) bs) (arguments vs)) (sem 𝓤 H A (dying (env (f .locals) bs)))))
-      (qed W ((raw (⋆ 𝓤 H A Γ) ⊛ ‵ (dying (env (f .locals) bs))) ∷ raw (cells 𝓤 H A W (env (f .locals) bs) (arguments vs)) ∷ []) ∵ split ! $ move ! (0 ∷ 2 ∷ []) $ done !)
-      (via 𝓤 (sep 𝓤 (⋆ 𝓤 H A Γ) (⋆ 𝓤 H A (locals (env (f .locals) bs) (arguments vs)))) (monoR 𝓤 (⋆ 𝓤 H A Γ) (into 𝓤 H A W (env (f .locals) bs) (arguments vs) (‵ (dying (env (f .locals) bs)) ∷ [])))
-      (via 𝓤 (⋆ 𝓤 H A (Γ ++ locals (env (f .locals) bs) (arguments vs))) (++⊢ 𝓤 H A Γ (locals (env (f .locals) bs) (arguments vs))) (k bs .prf))))));
+        via 𝓤 (sep 𝓤 (sep 𝓤 (⋆ 𝓤 H A Γ) (sem 𝓤 H A (dying (env (f .locals) bs)))) (cells 𝓤 H A W (env (f .locals) bs) nothing))
+        (qed W (raw (⋆ 𝓤 H A Γ) ∷ raw (cells 𝓤 H A W (env (f .locals) bs) nothing) ∷ ‵ (dying (env (f .locals) bs)) ∷ []) ∵ move ! (0 ∷ 2 ∷ []) $ join ! $ done !)
+        (stored 𝓤 H A W (f .locals) vs bs fit (sep 𝓤 (⋆ 𝓤 H A Γ) (sem 𝓤 H A (dying (env (f .locals) bs)))) (Wp 𝓤 H C Λ (env (f .locals) bs) (f .body) (atReturn 𝓤 H (env (f .locals) bs) Kf))
+        (via 𝓤 (sep 𝓤 (⋆ 𝓤 H A Γ) (sep 𝓤 (cells 𝓤 H A W (env (f .locals) bs) (arguments vs)) (sem 𝓤 H A (dying (env (f .locals) bs)))))
+        (qed W ((raw (⋆ 𝓤 H A Γ) ⊛ ‵ (dying (env (f .locals) bs))) ∷ raw (cells 𝓤 H A W (env (f .locals) bs) (arguments vs)) ∷ []) ∵ split ! $ move ! (0 ∷ 2 ∷ []) $ done !)
+        (via 𝓤 (sep 𝓤 (⋆ 𝓤 H A Γ) (⋆ 𝓤 H A (locals (env (f .locals) bs) (arguments vs)))) (monoR 𝓤 (⋆ 𝓤 H A Γ) (into 𝓤 H A W (env (f .locals) bs) (arguments vs) (‵ (dying (env (f .locals) bs)) ∷ [])))
+        (via 𝓤 (⋆ 𝓤 H A (Γ ++ locals (env (f .locals) bs) (arguments vs))) (++⊢ 𝓤 H A Γ (locals (env (f .locals) bs) (arguments vs))) (k bs .prf))))));
   }
 
   pub keeps-only : K → (E : Env 𝓤 H) (ks : List ℕ) {G : Goal 𝓤 H} → Ends 𝓤 H A W E Γ → Step K W (front E Γ ++ locals E (kept ks (shown 𝓤 H A W Γ))) G Γ G
   keeps-only t E ks e = step (λ s. record {
     prf = via 𝓤 (sep 𝓤 (⋆ 𝓤 H A (front E Γ)) (sep 𝓤 (cells 𝓤 H A W E (shown 𝓤 H A W Γ)) (sem 𝓤 H A (dying E)))) (parted 𝓤 H A W E Γ e)
-      (via 𝓤 (sep 𝓤 (⋆ 𝓤 H A (front E Γ)) (⋆ 𝓤 H A (locals E (kept ks (shown 𝓤 H A W Γ)))))
-      (monoR 𝓤 (⋆ 𝓤 H A (front E Γ)) (via 𝓤 (sep 𝓤 (cells 𝓤 H A W E (kept ks (shown 𝓤 H A W Γ))) (sem 𝓤 H A (dying E)))
-      (monoL 𝓤 (sem 𝓤 H A (dying E)) (less 𝓤 H A W E (shown 𝓤 H A W Γ) (kept ks (shown 𝓤 H A W Γ)) (λ e′ k. fewer 𝓤 H A W e′ ks (shown 𝓤 H A W Γ) k)))
-      (into 𝓤 H A W E (kept ks (shown 𝓤 H A W Γ)) (‵ (dying E) ∷ []))))
-      (via 𝓤 (⋆ 𝓤 H A (front E Γ ++ locals E (kept ks (shown 𝓤 H A W Γ)))) (++⊢ 𝓤 H A (front E Γ) (locals E (kept ks (shown 𝓤 H A W Γ)))) (s .prf)));
+        (via 𝓤 (sep 𝓤 (⋆ 𝓤 H A (front E Γ)) (⋆ 𝓤 H A (locals E (kept ks (shown 𝓤 H A W Γ)))))
+        (monoR 𝓤 (⋆ 𝓤 H A (front E Γ)) (via 𝓤 (sep 𝓤 (cells 𝓤 H A W E (kept ks (shown 𝓤 H A W Γ))) (sem 𝓤 H A (dying E)))
+        (monoL 𝓤 (sem 𝓤 H A (dying E)) (less 𝓤 H A W E (shown 𝓤 H A W Γ) (kept ks (shown 𝓤 H A W Γ)) (λ e′ k. fewer 𝓤 H A W e′ ks (shown 𝓤 H A W Γ) k)))
+        (into 𝓤 H A W E (kept ks (shown 𝓤 H A W Γ)) (‵ (dying E) ∷ []))))
+        (via 𝓤 (⋆ 𝓤 H A (front E Γ ++ locals E (kept ks (shown 𝓤 H A W Γ)))) (++⊢ 𝓤 H A (front E Γ) (locals E (kept ks (shown 𝓤 H A W Γ)))) (s .prf)));
   })
 
   module _ {E : Env 𝓤 H} where
     frees-all : K → {g : Goal 𝓤 H} → Ends 𝓤 H A W E Γ → Step K W (front E Γ) g Γ (frees E g)
     frees-all t {g} e = step (λ s. record {
       prf = via 𝓤 (sep 𝓤 (⋆ 𝓤 H A (front E Γ)) (sep 𝓤 (cells 𝓤 H A W E (shown 𝓤 H A W Γ)) (sem 𝓤 H A (dying E)))) (parted 𝓤 H A W E Γ e)
-        (via 𝓤 (sep 𝓤 (cells 𝓤 H A W E (shown 𝓤 H A W Γ)) (sep 𝓤 (sem 𝓤 H A (dying E)) (aim 𝓤 H g)))
-        (via 𝓤 (sep 𝓤 (aim 𝓤 H g) (sep 𝓤 (cells 𝓤 H A W E (shown 𝓤 H A W Γ)) (sem 𝓤 H A (dying E)))) (monoL 𝓤 (sep 𝓤 (cells 𝓤 H A W E (shown 𝓤 H A W Γ)) (sem 𝓤 H A (dying E))) (s .prf))
-        (qed W (raw (aim 𝓤 H g) ∷ raw (cells 𝓤 H A W E (shown 𝓤 H A W Γ)) ∷ ‵ (dying E) ∷ []) ∵ move ! (1 ∷ 2 ∷ []) $ done !))
-        (freed 𝓤 H A W E (shown 𝓤 H A W Γ) (aim 𝓤 H g)));
+          (via 𝓤 (sep 𝓤 (cells 𝓤 H A W E (shown 𝓤 H A W Γ)) (sep 𝓤 (sem 𝓤 H A (dying E)) (aim 𝓤 H g)))
+          (via 𝓤 (sep 𝓤 (aim 𝓤 H g) (sep 𝓤 (cells 𝓤 H A W E (shown 𝓤 H A W Γ)) (sem 𝓤 H A (dying E)))) (monoL 𝓤 (sep 𝓤 (cells 𝓤 H A W E (shown 𝓤 H A W Γ)) (sem 𝓤 H A (dying E))) (s .prf))
+          (qed W (raw (aim 𝓤 H g) ∷ raw (cells 𝓤 H A W E (shown 𝓤 H A W Γ)) ∷ ‵ (dying E) ∷ []) ∵ move ! (1 ∷ 2 ∷ []) $ done !))
+          (freed 𝓤 H A W E (shown 𝓤 H A W Γ) (aim 𝓤 H g)));
     })
 
     -- ---- one local
@@ -317,6 +317,12 @@ module _ {M : Type 1} {𝓤 : URA M} {H : Heap 𝓤} {A : Atoms 𝓤} {K : Type 
     pub leaves : K → {C : Calls 𝓤 H} {Λ : Loops 𝓤 H} {Kf : Val → SProp 𝓤} {r : Val} {q₀ : Share} → nth 𝓤 H A (spot 0 Γ) Γ ≡ ‵ (fat q₀ (type E zero) (block E zero) zero r)
         → Ends 𝓤 H A W E Γ → Step K W (front E Γ) (prop (Kf r)) Γ (runs C Λ E return (atRet E Kf))
     leaves t {C} {Λ} {Kf} e all = leaves-within t Kf refl e all
+
+  pub held : K → (k : ℕ) {q : Share} {τ : Ty} {b : ℕ} {v : Val} → nth 𝓤 H A (spot k Γ) Γ ≡ ‵ (fat q τ b zero v) → Reads K W Γ τ b zero v
+  held t k e = look t (spot k Γ) e
+
+  pub refills : K → (k : ℕ) {τ : Ty} {b : ℕ} {v₀ v : Val} → nth 𝓤 H A (spot k Γ) Γ ≡ ‵ (fat fullShare τ b zero v₀) → T (hasTy τ v) × WT v → Writes K W Γ τ b zero v (put 𝓤 H A (spot k Γ) (‵ (fat fullShare τ b zero v)) Γ)
+  refills t k e wt = store t (spot k Γ) e wt
 
   pub retold {χ} : K → (k : ℕ) {X : Type χ} (F : X → Val) {x y : X} {τ : Ty} {b : ℕ} {G : Goal 𝓤 H} → y ≡ x → nth 𝓤 H A (spot k Γ) Γ ≡ ‵ (fat fullShare τ b zero (F y)) → Step K W (put 𝓤 H A (spot k Γ) (‵ (fat fullShare τ b zero (F x))) Γ) G Γ G
   retold t k F {x} {y} {τ} {b} e at-k = rewrite t (spot k Γ) (λ z. ‵ (fat fullShare τ b zero (F z))) e at-k
