@@ -1,3 +1,4 @@
+pub mod Locals
 pub mod Walk
 pub mod Tallied
 pub mod Determined

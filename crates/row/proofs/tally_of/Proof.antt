@@ -36,7 +36,7 @@ use denote.Ref.{RefT, now}
 use denote.Slice.{sliceTy, sliceVal, ShrSlice, Room, heres, slice-vals, shr-slice-tells, codedHoleys, at-slice}
 use denote.Index.{place-is, elem-out, elem-back, looks-slice, shuts-slice}
 use denote.Signature.{plain}
-use denote.Steps.{owned, peeks, heard, nothing}
+use denote.Steps.{nothing}
 use denote.Struct.Laws as LL
 use denote.Triple.Statement.{Contract, Triple}
 use denote.Triple.Call.{calls-at}
@@ -55,7 +55,8 @@ use Rattle.row.specs.Tally as S
 use Rattle.row.specs.Tally.{tallied}
 use Rattle.row.proofs.Tally as U
 use Rattle.row.proofs.Tally.Laws as U′
-use Rattle.row.proofs.Walk.{spot-of, after, hd, low-tally}
+use Rattle.row.proofs.Locals.{Blocks, env, locals, holding, enters, leaves, keeps-only, held, var, part, sets, resets, refills, lands-in, relands-in, retold}
+use Rattle.row.proofs.Walk.{after, session-size, session-data, tally-data, low, Good, fits, makes, answered}
 use Rattle.row.proofs.Tally.nothing as nothing-yet
 use Rattle.row.proofs.Tally.nothing.Symbol as nothing-def
 use Rattle.row.proofs.Tally.nothing.Symbol.{name as #nothing}
@@ -73,9 +74,31 @@ use Rattle.row.proofs.tally_of.Code.Mir as mir
 abbrev stayed : Stays (f.ended .signature .params) (f.ended .kept)
 stayed = (stay-none-slice (0 ∷ []) tt (plain (λ _. T.the-row)) yes, tt)
 
--- where local k stands, behind a head of h things
-abbrev spot : ℕ → ℕ → ℕ
-spot = spot-of 7
+-- ---- the locals
+abbrev %row : ℕ
+%row = 1
+
+abbrev %tally : ℕ
+%tally = 2
+
+abbrev %k : ℕ
+%k = 3
+
+-- the row's length, then how far its session k lies in
+abbrev %far : ℕ
+%far = 4
+
+abbrev %more : ℕ
+%more = 5
+
+abbrev %place : ℕ
+%place = 6
+
+abbrev %session : ℕ
+%session = 7
+
+abbrev %result : ℕ
+%result = 0
 
 -- one more session
 step : (ys : List Session) (i : ℕ) (t : Tally) → i < length ys → tallied t (dropL i ys) ≡ tallied S.nothing ys → (r : Tally) → r ≡ S.tally t (sessionAt ys i) → tallied r (dropL (i + 1) ys) ≡ tallied S.nothing ys
@@ -91,14 +114,8 @@ module _ {M : Type 1} (𝓤 : URA M) (H : Heap 𝓤) (A : Atoms 𝓤) (mem : Mem
   abbrev Turn : Contract 𝓤
   Turn = tripleOf 𝓤 H A tally.signature (tally.spec 𝓤 H A mem run)
 
-  turn-says : (t : Tally) (c : Session) (r : Tally) → ent 𝓤 (ensured 𝓤 H A tally.ended (tally.clauses 𝓤 H A mem run) tt (t, (c, tt)) tt r) (fact 𝓤 (r ≡ S.tally t c))
-  turn-says t c r = exE 𝓤 _ (λ ws. snd∗ 𝓤 (sem 𝓤 H A (lasts tally.ended tt (t, (c, tt)) ws)) (fact 𝓤 (r ≡ S.tally t c)))
-
   abbrev Start : Contract 𝓤
   Start = tripleOf 𝓤 H A nothing-yet.signature (nothing-yet.spec 𝓤 H A mem run)
-
-  start-says : (r : Tally) → ent 𝓤 (ensured 𝓤 H A nothing-yet.ended (nothing-yet.clauses 𝓤 H A mem run) tt tt tt r) (fact 𝓤 (r ≡ S.nothing))
-  start-says r = exE 𝓤 _ (λ ws. snd∗ 𝓤 (sem 𝓤 H A (lasts nothing-yet.ended tt tt ws)) (fact 𝓤 (r ≡ S.nothing)))
 
 module _ {M : Type 1} (𝓤 : URA M) (H : Heap 𝓤) (A : Atoms 𝓤) (W : Given 𝓤 H A) (mem : Memory → SProp 𝓤) (run : Routine → Fun 𝓤) (κ : Lft) (q : Share) (b o : ℕ) (γ : GName) (ys : List Session) (gn : Room T.the-row (length ys)) where
   abbrev x : RefT (List Session)
@@ -120,24 +137,24 @@ module _ {M : Type 1} (𝓤 : URA M) (H : Heap 𝓤) (A : Atoms 𝓤) (W : Given
   abbrev Fact : Fml
   Fact = at-slice T.the-row x (at .0)
 
-  exits : (r : Tally) → Is U.the-row r (low-tally r ∷ []) → r ≡ tallied S.nothing ys → ent 𝓤 (⋆ 𝓤 H A (‵ Shared ∷ ‵ (flft κ q) ∷ ‵ Named ∷ ‵ Fact ∷ [])) (Post (low-tally r))
-  exits r fits is =
+  exits : (r : Tally) → Good tally-data r → r ≡ tallied S.nothing ys → ent 𝓤 (⋆ 𝓤 H A (‵ Shared ∷ ‵ (flft κ q) ∷ ‵ Named ∷ ‵ Fact ∷ [])) (Post (low tally-data r))
+  exits r good is =
       qed W (‵ Shared ∷ ‵ (flft κ q) ∷ ‵ Named ∷ ‵ Fact ∷ []) ∵
-      suffices ! _ (ends-at 𝓤 H A f.ended stayed (f.clauses 𝓤 H A mem run) W (((κ, tt), (q, tt), tt, (x, tt), at), tt) (low-tally r) r (tt, tt) (tt, tt)) $ says ! is $
+      suffices ! _ (ends-at 𝓤 H A f.ended stayed (f.clauses 𝓤 H A mem run) W (((κ, tt), (q, tt), tt, (x, tt), at), tt) (low tally-data r) r (tt, tt) (tt, tt)) $ says ! is $
       move ! (2 ∷ 0 ∷ []) $ fjoin ! $ move ! (2 ∷ 0 ∷ []) $ fjoin ! $ move ! (1 ∷ 0 ∷ []) $
       -- [the token; what row owns]
       nothing ! $ move ! (1 ∷ 0 ∷ []) $ join ! $ nothing ! $ move ! (2 ∷ 0 ∷ []) $ fjoin ! $ move ! (1 ∷ 0 ∷ []) $ frame ! $ frame ! $
-      owned ! U.the-row (Is U.the-row) (LL.makes U.the-type U′.the-plain 𝓤 H A) r _ fits $ done !
+      makes ! tally-data r good $ done !
 
   abbrev mach : ℕ → Val
-  mach i = T′.lowered (sessionAt ys i)
+  mach i = low session-data (sessionAt ys i)
 
   abbrev to-turn : Tally → ℕ → Turn 𝓤 H A mem run .Ghost
-  to-turn t i = ((tt, tt, tt, (t, (sessionAt ys i, tt)), (low-tally t ∷ [], (mach i ∷ [], tt))), tt)
+  to-turn t i = ((tt, tt, tt, (t, (sessionAt ys i, tt)), (low tally-data t ∷ [], (mach i ∷ [], tt))), tt)
 
-  goes-turn : (t : Tally) (i : ℕ) → ent 𝓤 (sep 𝓤 (sem 𝓤 H A (U.the-row .own t (low-tally t ∷ []))) (sem 𝓤 H A (T.the-row .own (sessionAt ys i) (mach i ∷ [])))) (Turn 𝓤 H A mem run .pre (to-turn t i))
+  goes-turn : (t : Tally) (i : ℕ) → ent 𝓤 (sep 𝓤 (sem 𝓤 H A (U.the-row .own t (low tally-data t ∷ []))) (sem 𝓤 H A (T.the-row .own (sessionAt ys i) (mach i ∷ [])))) (Turn 𝓤 H A mem run .pre (to-turn t i))
   goes-turn t i =
-      qed W (‵ (U.the-row .own t (low-tally t ∷ [])) ∷ ‵ (T.the-row .own (sessionAt ys i) (mach i ∷ [])) ∷ []) ∵
+      qed W (‵ (U.the-row .own t (low tally-data t ∷ [])) ∷ ‵ (T.the-row .own (sessionAt ys i) (mach i ∷ [])) ∷ []) ∵
       nothing ! $ move ! (2 ∷ 0 ∷ []) $ join ! $ move ! (1 ∷ 0 ∷ []) $ join ! $ nothing ! $ join ! $ frame ! $ done !
 
   abbrev to-start : Start 𝓤 H A mem run .Ghost
@@ -148,7 +165,7 @@ module _ {M : Type 1} (𝓤 : URA M) (H : Heap 𝓤) (A : Atoms 𝓤) (W : Given
 
   -- where the loop stands: at i, with the tally of those before it
   abbrev Upto : Type 0
-  Upto = (i : ℕ) × ((t : Tally) × ((i ≤ length ys) × (Is U.the-row t (low-tally t ∷ []) × (tallied t (dropL i ys) ≡ tallied S.nothing ys))))
+  Upto = (i : ℕ) × ((t : Tally) × ((i ≤ length ys) × (Good tally-data t × (tallied t (dropL i ys) ≡ tallied S.nothing ys))))
 
   abbrev Nearer : Upto → Upto → Type 0
   Nearer j i = length ys - j .0 < length ys - i .0
@@ -156,24 +173,22 @@ module _ {M : Type 1} (𝓤 : URA M) (H : Heap 𝓤) (A : Atoms 𝓤) (W : Given
   Nearer-wf : WellFounded Nearer
   Nearer-wf = InvImage·wf (λ (i : Upto). length ys - i .0) (Nat·lt-wfRel .wf)
 
-  module _ (𝓣 : Tables 𝓤 H) (known-start : Triple 𝓤 (𝓣 .C #nothing) (Start 𝓤 H A mem run)) (known : Triple 𝓤 (𝓣 .C #tally) (Turn 𝓤 H A mem run)) (l₀ l₁ l₂ l₃ l₄ l₅ l₆ l₇ : ℕ) where
+  module _ (𝓣 : Tables 𝓤 H) (known-start : Triple 𝓤 (𝓣 .C #nothing) (Start 𝓤 H A mem run)) (known : Triple 𝓤 (𝓣 .C #tally) (Turn 𝓤 H A mem run)) (bs : Blocks (code.function .locals)) where
     abbrev C : Calls 𝓤 H
     C = 𝓣 .C
 
     abbrev Λ : Loops 𝓤 H
     Λ = 𝓣 .Λ
 
-    abbrev slice : Ty
-    slice = sliceTy (tyRef (named 0) imm (pointee (T.the-row .written)))
-
     abbrev En : Env 𝓤 H
-    En = (U′.mir, l₀) ∷ (slice, l₁) ∷ (U′.mir, l₂) ∷ (tyInt w64, l₃) ∷ (tyInt w64, l₄) ∷ (tyBool, l₅) ∷ (tyPtr, l₆) ∷ (T′.mir, l₇) ∷ []
+    En = env (code.function .locals) bs
 
-    -- [the slice's borrow; the token; its name; its fact; the locals from the last to the first]
+    -- [the slice's borrow; the token; its name; its fact; the locals, which hold hs]
+    abbrev With : List (ℕ × Val) → List (Item 𝓤)
+    With hs = ‵ Shared ∷ ‵ (flft κ q) ∷ ‵ Named ∷ ‵ Fact ∷ locals En (holding hs)
+
     abbrev At : Upto → List (Item 𝓤)
-    At u = ‵ Shared ∷ ‵ (flft κ q) ∷ ‵ Named ∷ ‵ Fact ∷ ‵ (froom T′.mir l₇ 0) ∷ ‵ (fdies T′.mir l₇) ∷ ‵ (froom tyPtr l₆ 0) ∷ ‵ (fdies tyPtr l₆) ∷ ‵ (froom tyBool l₅ 0) ∷ ‵ (fdies tyBool l₅)
-        ∷ ‵ (froom (tyInt w64) l₄ 0) ∷ ‵ (fdies (tyInt w64) l₄) ∷ ‵ (fat fullShare (tyInt w64) l₃ 0 (vint w64 (u .0))) ∷ ‵ (fdies (tyInt w64) l₃) ∷ ‵ (fat fullShare U′.mir l₂ 0 (low-tally (u .1 .0))) ∷ ‵ (fdies U′.mir l₂)
-        ∷ ‵ (fat fullShare slice l₁ 0 (sliceVal (b, o) (length ys))) ∷ ‵ (fdies slice l₁) ∷ ‵ (froom U′.mir l₀ 0) ∷ ‵ (fdies U′.mir l₀) ∷ []
+    At u = With ((%row, sliceVal (b, o) (length ys)) ∷ (%tally, low tally-data (u .1 .0)) ∷ (%k, vint w64 (u .0)) ∷ [])
 
     abbrev Turned : Upto → Out → SProp 𝓤
     Turned u = afterTurn 𝓤 H (Below 𝓤 H A Nearer At u) (afterBlock 𝓤 H (afterSeq 𝓤 H (Wp 𝓤 H C Λ En mir.t-4 (atReturn 𝓤 H En Post)) (atReturn 𝓤 H En Post)))
@@ -181,34 +196,28 @@ module _ {M : Type 1} (𝓤 : URA M) (H : Heap 𝓤) (A : Atoms 𝓤) (W : Given
     turns : (u : Upto) → Sq W (At u) (runs C Λ En mir.turn-1 (anyQ (Turned u)))
     unfolding afterTurn
     turns u =
-        assigns ! (of-opd ! (load ! (from ! (fld ! refl (stop !))) (look-in ! (spot 4 1) (sub ! 1 refl (whole !))))) (from ! (stop !)) (init ! (spot 4 4) refl (tt, record { fits = gn .0 })) $
-        assigns ! (bin ! (load ! (from ! (stop !)) (look ! (spot 4 3) refl)) (load ! (from ! (stop !)) (look ! (spot 4 4) refl)) tt) (from ! (stop !)) (init ! (spot 4 5) refl (tt, tt)) $
-        first ! $ branches ! (load ! (from ! (stop !)) (look ! (spot 4 5) refl))
+        sets ! %far (of-opd ! (part ! %row 1 refl refl)) refl (tt, record { fits = gn .0 }) $
+        sets ! %more (bin ! (var ! %k refl) (var ! %far refl) tt) refl (tt, tt) $
+        first ! $ branches ! (var ! %more refl)
         (λ less. skips ! $ exec ! C Λ En (after (after (after mir.turn-1))) (anyQ (Turned u)) $
-        assigns ! (bin ! (load ! (from ! (stop !)) (look ! (spot 4 3) refl)) (lit ! tt) (scaled less)) (from ! (stop !)) (store ! (spot 4 4) refl (tt, scaled less)) $
-        assigns ! (bin ! (load ! (from ! (fld ! refl (stop !))) (look-in ! (spot 4 1) (sub ! 0 refl (whole !)))) (load ! (from ! (stop !)) (look ! (spot 4 4) refl)) tt) (from ! (stop !)) (init ! (spot 4 6) refl (tt, tt)) $
-        rewrite ! (spot 4 6) (λ (p : ℕ). ‵ (fat fullShare tyPtr l₆ 0 (vptr b p))) (sym (place-is 20 o i)) refl $
+        resets ! %far (bin ! (var ! %k refl) (lit ! tt) (scaled less)) refl (tt, scaled less) $
+        sets ! %place (bin ! (part ! %row 0 refl refl) (var ! %far refl) tt) refl (tt, tt) $
+        retold ! %place (vptr b) (sym (place-is session-size o i)) refl $
         -- element i is copied out
         looks-slice ! tt T.the-row (Is T.the-row) (shows 𝓤 H A T.the-row) (LL.vals T.the-type T′.the-laws) (LL.tells T.the-type T′.the-laws) (LL.copy T.the-type T′.the-copy 𝓤 H A W) ys b o (λ q′.
         elem-out ! T.the-row (Is T.the-row) (shows 𝓤 H A T.the-row) (LL.vals T.the-type T′.the-laws) (LL.tells T.the-type T′.the-laws) q′ ys i nobody b o (within less) (λ is.
-        assigns ! (of-opd ! (load ! (from ! (hop ! (look ! (spot 7 6) refl) (stop !))) (look-raw ! 0 refl))) (from ! (stop !)) (init ! (spot 7 7) refl (LL.lawful T.the-type T′.the-laws 𝓤 H A W .typed (sessionAt ys i) _ is .0)) $
+        sets ! %session (of-opd ! (load ! (from ! (hop ! (held ! %place refl) (stop !))) (look-raw ! 0 refl))) refl (fits session-data W (sessionAt ys i) is .0) $
         elem-back ! T.the-row q′ ys i nobody (mach i ∷ []) b o (within less) $ shuts-slice ! tt T.the-row q′ ys b o $ move ! (1 ∷ 0 ∷ []) $
         -- and counted
-        owned ! T.the-row (Is T.the-row) (LL.makes T.the-type T′.the-plain 𝓤 H A) (sessionAt ys i) _ is $ owned ! U.the-row (Is U.the-row) (LL.makes U.the-type U′.the-plain 𝓤 H A) t _ t-is $
-        use2 W (raw (Turn 𝓤 H A mem run .pre (to-turn t i))) (goes-turn t i) $
-        calls-at ! (fmOf 𝓤 H (W .laws) 𝓣) (Turn 𝓤 H A mem run) known (to-turn t i) (and-then ! (load ! (from ! (stop !)) (look ! (spot 5 2) refl)) (and-then ! (load ! (from ! (stop !)) (look ! (spot 5 7) refl)) (no-more !))) (λ v.
-        use1 W (later (some (λ (r : Tally). (‵ ftrue ⊛ ‵ (U.the-row .own r (v ∷ []))) ⊛ raw (ensured 𝓤 H A tally.ended (tally.clauses 𝓤 H A mem run) tt (t, (sessionAt ys i, tt)) tt r)))) (id⊢ 𝓤 _) $ await ! tt $ pick ! (λ r.
-        split ! $ move ! (1 ∷ []) $ use1 W (raw (fact 𝓤 (r ≡ S.tally t (sessionAt ys i)))) (turn-says 𝓤 H A mem run t (sessionAt ys i) r) $ heard ! (r ≡ S.tally t (sessionAt ys i)) (λ e. split ! $ drop ! $
-        peeks ! U.the-row (Is U.the-row) (shows 𝓤 H A U.the-row) r (v ∷ []) (λ got. drop ! $
-        land ! (from ! (stop !)) (store ! (spot 4 2) refl (LL.lawful U.the-type U′.the-laws 𝓤 H A W .typed r _ got .0)) $
-        rewrite ! (spot 4 2) (λ (us : List Val). ‵ (fat fullShare U′.mir l₂ 0 (hd us))) (LL.tells U.the-type U′.the-laws r (v ∷ []) got) refl $
-        assigns-last ! (bin ! (load ! (from ! (stop !)) (look ! (spot 4 3) refl)) (lit ! tt) (record { fits = next-fits less })) (from ! (stop !)) (store ! (spot 4 3) refl (tt, record { fits = next-fits less })) $
-        forget ! (spot 4 7) refl $ forget ! (spot 4 6) refl $ forget ! (spot 4 5) refl $ forget ! (spot 4 4) refl $
-        again ! Nearer At u (i + 1, (r, (add-one-le (within less), (subst (Is U.the-row r) (LL.tells U.the-type U′.the-laws r (v ∷ []) got) got, step ys i t (within less) (u .1 .1 .1 .1) r e)))) (add-one-dec (length ys) i (within less)))))))))
+        makes ! session-data (sessionAt ys i) is $ makes ! tally-data t t-is $ use2 W (raw (Turn 𝓤 H A mem run .pre (to-turn t i))) (goes-turn t i) $
+        calls-at ! (fmOf 𝓤 H (W .laws) 𝓣) (Turn 𝓤 H A mem run) known (to-turn t i) (and-then ! (var ! %tally refl) (and-then ! (var ! %session refl) (no-more !))) (λ v.
+        answered ! tally-data (‵ ftrue) (lasts tally.ended tt (t, (sessionAt ys i, tt))) (λ r _. r ≡ S.tally t (sessionAt ys i)) (id⊢ 𝓤 _) (λ r ws e good. drop ! $ drop ! $
+        relands-in ! %tally refl (fits tally-data W r good .0) $
+        assigns-last ! (bin ! (var ! %k refl) (lit ! tt) (record { fits = next-fits less })) (from ! (stop !)) (refills ! %k refl (tt, record { fits = next-fits less })) $
+        keeps-only ! En (%row ∷ %tally ∷ %k ∷ []) refl $
+        again ! Nearer At u (i + 1, (r, (add-one-le (within less), (good, step ys i t (within less) (u .1 .1 .1 .1) r e)))) (add-one-dec (length ys) i (within less)))))))
         (λ over. jumps ! $ exec ! C Λ En mir.t-4 (atRet En Post) $
-        assigns ! (of-opd ! (load ! (from ! (stop !)) (look ! (spot 4 2) refl))) (from ! (stop !)) (init ! (spot 4 0) refl (LL.lawful U.the-type U′.the-laws 𝓤 H A W .typed t _ t-is .0)) $
-        returns ! (look ! (spot 4 0) refl) $ forget ! (spot 4 5) refl $ forget ! (spot 4 4) refl $ forget ! (spot 4 3) refl $ forget ! (spot 4 2) refl $ forget ! (spot 4 1) refl $ forget ! (spot 4 0) refl $
-        move ! ((spot 4 0) ∷ (spot 4 0 + 1) ∷ []) $ free1 ! $ move ! ((spot 4 1) ∷ (spot 4 1 + 1) ∷ []) $ free1 ! $ move ! ((spot 4 2) ∷ (spot 4 2 + 1) ∷ []) $ free1 ! $ move ! ((spot 4 3) ∷ (spot 4 3 + 1) ∷ []) $ free1 ! $ move ! ((spot 4 4) ∷ (spot 4 4 + 1) ∷ []) $ free1 ! $ move ! ((spot 4 5) ∷ (spot 4 5 + 1) ∷ []) $ free1 ! $ move ! ((spot 4 6) ∷ (spot 4 6 + 1) ∷ []) $ free1 ! $ move ! ((spot 4 7) ∷ (spot 4 7 + 1) ∷ []) $ free1 ! $ free0 ! $
+        sets ! %result (of-opd ! (var ! %tally refl)) refl (fits tally-data W t t-is .0) $ leaves ! refl refl $
         by ! (exits t t-is (last ys i t (le-antisymm (u .1 .1 .0) (nltb→le i (length ys) over)) (u .1 .1 .1 .1))))
       where
         i : ℕ
@@ -217,44 +226,33 @@ module _ {M : Type 1} (𝓤 : URA M) (H : Heap 𝓤) (A : Atoms 𝓤) (W : Given
         t : Tally
         t = u .1 .0
 
-        t-is : Is U.the-row t (low-tally t ∷ [])
+        t-is : Good tally-data t
         t-is = u .1 .1 .1 .0
 
         within : T (ltb i (length ys)) → i < length ys
         within less = ltb→lt i (length ys) less
 
-        scaled : T (ltb i (length ys)) → Fits w64 (i * 20)
-        scaled less = scaled-fits i (length ys) 20 (within less) (gn .1)
+        scaled : T (ltb i (length ys)) → Fits w64 (i * session-size)
+        scaled less = scaled-fits i (length ys) session-size (within less) (gn .1)
 
         next-fits : T (ltb i (length ys)) → i + 1 < 2 ^ 64
         next-fits less = lt-of-le-of-lt (add-one-le (within less)) (gn .0)
 
-    -- before the loop
-    abbrev Started : List (Item 𝓤)
-    Started = ‵ Shared ∷ ‵ (flft κ q) ∷ ‵ Named ∷ ‵ Fact ∷ ‵ (froom T′.mir l₇ 0) ∷ ‵ (fdies T′.mir l₇) ∷ ‵ (froom tyPtr l₆ 0) ∷ ‵ (fdies tyPtr l₆) ∷ ‵ (froom tyBool l₅ 0) ∷ ‵ (fdies tyBool l₅)
-        ∷ ‵ (froom (tyInt w64) l₄ 0) ∷ ‵ (fdies (tyInt w64) l₄) ∷ ‵ (froom (tyInt w64) l₃ 0) ∷ ‵ (fdies (tyInt w64) l₃) ∷ ‵ (froom U′.mir l₂ 0) ∷ ‵ (fdies U′.mir l₂)
-        ∷ ‵ (fat fullShare slice l₁ 0 (sliceVal (b, o) (length ys))) ∷ ‵ (fdies slice l₁) ∷ ‵ (froom U′.mir l₀ 0) ∷ ‵ (fdies U′.mir l₀) ∷ []
-
-    starts : Sq W Started (runs C Λ En mir.t-1 (atRet En Post))
+    starts : Sq W (With ((%row, sliceVal (b, o) (length ys)) ∷ [])) (runs C Λ En mir.t-1 (atRet En Post))
     starts =
         nothing ! $ use1 W (raw (Start 𝓤 H A mem run .pre to-start)) goes-start $
         calls-at ! (fmOf 𝓤 H (W .laws) 𝓣) (Start 𝓤 H A mem run) known-start to-start (no-more !) (λ v.
-        use1 W (later (some (λ (r : Tally). (‵ ftrue ⊛ ‵ (U.the-row .own r (v ∷ []))) ⊛ raw (ensured 𝓤 H A nothing-yet.ended (nothing-yet.clauses 𝓤 H A mem run) tt tt tt r)))) (id⊢ 𝓤 _) $ await ! tt $ pick ! (λ r.
-        split ! $ move ! (1 ∷ []) $ use1 W (raw (fact 𝓤 (r ≡ S.nothing))) (start-says 𝓤 H A mem run r) $ heard ! (r ≡ S.nothing) (λ e. split ! $ drop ! $
-        peeks ! U.the-row (Is U.the-row) (shows 𝓤 H A U.the-row) r (v ∷ []) (λ got. drop ! $
-        land ! (from ! (stop !)) (init ! (spot 4 2) refl (LL.lawful U.the-type U′.the-laws 𝓤 H A W .typed r _ got .0)) $
-        rewrite ! (spot 4 2) (λ (us : List Val). ‵ (fat fullShare U′.mir l₂ 0 (hd us))) (LL.tells U.the-type U′.the-laws r (v ∷ []) got) refl $
-        assigns ! (of-opd ! (lit ! tt)) (from ! (stop !)) (init ! (spot 4 3) refl (tt, record { fits = lit< tt })) $
-        first ! $ blocks ! $ loops ! 𝓣 Nearer Nearer-wf At turns (0, (r, (zero-le, (subst (Is U.the-row r) (LL.tells U.the-type U′.the-laws r (v ∷ []) got) got, ap (λ (t : Tally). tallied t ys) e))))))))
+        answered ! tally-data (‵ ftrue) (lasts nothing-yet.ended tt tt) (λ r _. r ≡ S.nothing) (id⊢ 𝓤 _) (λ r ws e good. drop ! $ drop ! $
+        lands-in ! %tally refl (fits tally-data W r good .0) $
+        sets ! %k (of-opd ! (lit ! tt)) refl (tt, record { fits = lit< tt }) $
+        first ! $ blocks ! $ loops ! 𝓣 Nearer Nearer-wf At turns (0, (r, (zero-le, (good, ap (λ (t : Tally). tallied t ys) e))))))
 
   walk : (𝓣 : Tables 𝓤 H) → Triple 𝓤 (𝓣 .C #nothing) (Start 𝓤 H A mem run) → Triple 𝓤 (𝓣 .C #tally) (Turn 𝓤 H A mem run) → ent 𝓤 (onEntry 𝓤 H A f.signature (κ, tt) (q, tt) (x, tt) at) (WpFn 𝓤 H (𝓣 .C) (𝓣 .Λ) code.function (sliceVal (b, o) (length ys) ∷ []) Post)
   walk 𝓣 known-start known =
-      qed W ((‵ (flft κ q) ⊛ ‵ ftrue) ∷ ‵ (owns (ShrSlice (named 0) κ T.the-row ∷ []) (x, tt) at) ∷ []) ∵ enter ! (𝓣 .C) (𝓣 .Λ) code.function (sliceVal (b, o) (length ys) ∷ []) _ $
-      alloc1 ! (λ l₀. alloc1 ! (λ l₁. alloc1 ! (λ l₂. alloc1 ! (λ l₃. alloc1 ! (λ l₄. alloc1 ! (λ l₅. alloc1 ! (λ l₆. alloc1 ! (λ l₇. alloc0 ! $ params1 ! $
-      pass1 ! (init ! (spot 0 1) refl (tt, (tt, (record { fits = gn .0 }, tt)))) $ pass0 ! $
-      move ! (17 ∷ []) $ fsplit ! $ fsplit ! $ move ! (1 ∷ []) $ fsplit ! $ move ! (20 ∷ []) $ split ! $
-      keep ! (3 ∷ 0 ∷ 2 ∷ 4 ∷ 6 ∷ 7 ∷ 8 ∷ 9 ∷ 10 ∷ 11 ∷ 12 ∷ 13 ∷ 14 ∷ 15 ∷ 16 ∷ 17 ∷ 18 ∷ 19 ∷ 20 ∷ 21 ∷ []) $
-      starts 𝓣 known-start known l₀ l₁ l₂ l₃ l₄ l₅ l₆ l₇))))))))
+      qed W ((‵ (flft κ q) ⊛ ‵ ftrue) ∷ ‵ (owns (ShrSlice (named 0) κ T.the-row ∷ []) (x, tt) at) ∷ []) ∵
+      enters ! (𝓣 .C) (𝓣 .Λ) code.function (sliceVal (b, o) (length ys) ∷ []) _ ((tt, (tt, (record { fits = gn .0 }, tt))), tt) (λ bs.
+      move ! (1 ∷ []) $ fsplit ! $ fsplit ! $ move ! (1 ∷ []) $ fsplit ! $ move ! (4 ∷ []) $ split ! $ move ! (1 ∷ 5 ∷ []) $ drop ! $ drop ! $ move ! (2 ∷ []) $
+      starts 𝓣 known-start known bs)
 
 module _ {M : Type 1} (𝓤 : URA M) (H : Heap 𝓤) (A : Atoms 𝓤) (W : Given 𝓤 H A) (mem : Memory → SProp 𝓤) (run : Routine → Fun 𝓤) where
   tally-of-walks : (𝓣 : Tables 𝓤 H) → Triple 𝓤 (𝓣 .C #nothing) (Start 𝓤 H A mem run) → Triple 𝓤 (𝓣 .C #tally) (Turn 𝓤 H A mem run) → Walks 𝓤 H A f.ended stayed (WpFn 𝓤 H (𝓣 .C) (𝓣 .Λ) code.function) (f.clauses 𝓤 H A mem run)
