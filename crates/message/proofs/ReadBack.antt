@@ -10,7 +10,8 @@ use Rattle.choice.specs.Pick.{pick}
 use Rattle.octets.proofs.Numbers.{forth16}
 use Rattle.sets.specs.Set.{switched}
 use Rattle.area.specs.declared.Reading.{Reading}
-use Rattle.area.specs.Area.{none, at16, fault, taken, takeTac, takeSac, takeDynamic, passOther, byType, tlvAt, readFrom, readArea, part}
+use Rattle.area.specs.Found.{none}
+use Rattle.area.specs.Area.{at16, takeTlv, passOther, byType, tlvAt, readFrom, readArea, part}
 use Rattle.lists.specs.Tac.{sBit, idAt, eAt, stood, after, tacList}
 use Rattle.message.specs.declared.Message.the-variants.{Change}
 use Rattle.message.specs.Message.{topBit, oneElement, tacOctets, messageOf, octetsOf, changeLength}
@@ -27,7 +28,7 @@ module _ (number n : ℕ) (on : Bool) where
   last-nine = refl
 
   pub read-back : readArea (tacOctets n on) ≡ oneTac
-  unfolding pick at16 fault taken takeTac takeSac takeDynamic passOther byType tlvAt readFrom readArea
+  unfolding pick at16 takeTlv passOther byType tlvAt readFrom readArea
   read-back = refl
 
   pub value-back : part (tacOctets n on) (oneTac .tac) ≡ oneElement n on
