@@ -6,17 +6,13 @@ use mathlib.Core.List.{List, [], _∷_, _++_}
 use lib.ListN.{length}
 use lib.Dec.{ltb}
 use Rattle.choice.specs.Pick.{pick}
-use Rattle.octets.specs.Octets.{be16, be32, over}
+use Rattle.octets.specs.Octets.{be16, be32, topBit, over}
 use Rattle.area.specs.Area.{tacType, uBit}
 use Rattle.area.specs.Tlvs.{Tlv, areaOf}
 use Rattle.message.specs.declared.Message.{Message}
 use Rattle.message.specs.declared.Message.the-variants.{NoMessage, Change}
 
--- S or E as the top bit of an octet: "reserved and unused bits are written 0"
-abbrev pub topBit : Bool → ℕ
-topBit on = pick on 0x80 0
-
--- an element of a TAC: "TA-Id (16 bits), E (the top bit of the third octet), 15 reserved bits"
+-- an element of a TAC: "TA-Id (16 bits), E (the top bit of the third octet), 15 reserved bits"; "reserved and unused bits are written 0"
 abbrev pub element : ℕ → Bool → List ℕ
 element n on = be16 n ++ (topBit on ∷ 0 ∷ [])
 

@@ -4,7 +4,7 @@ ghost use Prim.Native.Nat.{_+_, _<_};
 ghost use Rattle.octets.specs.Octets.{over};
 ghost use Rattle.area.specs.Area.{uBit, typeCount};
 ghost use Rattle.area.specs.Tlvs.{tlvHead};
-ghost use Rattle.message.specs.Message.{topBit, messageHead, oneElement, messageOf, roomWith};
+ghost use Rattle.message.specs.Message.{messageHead, oneElement, messageOf, roomWith};
 
 // What an event writes: nothing, or a message under its number.
 pub enum Message {
@@ -26,13 +26,6 @@ const ONE_ELEMENT_TAC: usize = area::HEAD_LENGTH + ONE_ELEMENT;
 
 // How many octets the message of a change has.
 pub const CHANGE_LENGTH: usize = MESSAGE_HEAD + ONE_ELEMENT_TAC;
-
-// S or E as the top bit of an octet.
-fn top_bit(on: bool) -> u8
-    ensures { λ r. ⌜ r ≡ topBit on ⌝ }
-{
-    if on { 0x80 } else { 0 }
-}
 
 // What stands before the area of a message of type t, `len` the length of its area.
 fn message_head(t: u32, len: usize, number: u32) -> [u8; 8]
@@ -69,8 +62,8 @@ fn tlv_head(t: usize, len: usize) -> [u8; 4]
 fn one_element(n: u32, on: bool) -> [u8; 5]
     ensures { λ r. ⌜ r ≡ oneElement n on ⌝ }
 {
-    let s = top_bit(true);
-    let e = top_bit(on);
+    let s = octets::top_bit(true);
+    let e = octets::top_bit(on);
     [s, (n / 256 % 256) as u8, (n % 256) as u8, e, 0]
 }
 
