@@ -4,8 +4,12 @@ use mathlib.Core.Path.{_≡_, sym, _∙_}
 use denote.Ref.{now}
 use Rattle.choice.specs.Determined.{Determined}
 use Rattle.choice.proofs.Determined.{by-equation}
+use Rattle.area.proofs.at16.Reads as at16
 use Rattle.area.proofs.read_area.Reads as read-area
 use Rattle.area.proofs.part_of.Reads as part-of
+
+pub at16-determined : (κs : _) → Determined (at16.Post κs)
+at16-determined κs a r r′ s s′ p q = p .0 ∙ sym (q .0)
 
 pub read-area-determined : (κs : _) → Determined (read-area.Post κs)
 read-area-determined κs = by-equation _

@@ -3,22 +3,24 @@
 use mathlib.Core.Path.{_≡_, refl}
 use mathlib.Core.List.{[], _∷_}
 use Rattle.choice.specs.Pick.{pick}
-use Rattle.area.specs.Area.{refused, nothing, at16, fault, taken, takeTac, takeSac, takeDynamic, passOther, byType, tlvAt, readFrom, readArea, part, tacOf, sacOf}
+use Rattle.refusals.specs.Refusals.{cutShort, badLength, unknownType, repeated}
+use Rattle.area.specs.Found.{refused, nothingFound}
+use Rattle.area.specs.Area.{at16, takeTlv, passOther, byType, tlvAt, readFrom, readArea, part, tacOf, sacOf}
 
-refusals : (readArea (0x85 ∷ 0x0F ∷ 0 ∷ 4 ∷ 0x80 ∷ 0 ∷ 4 ∷ 0x80 ∷ []) ≡ refused 3)
-    × (readArea (0x85 ∷ 0x0F ∷ 0 ∷ 5 ∷ 0x80 ∷ []) ≡ refused 2)
-    × (readArea (0x06 ∷ 0 ∷ 0 ∷ 0 ∷ []) ≡ refused 4)
-    × (readArea (0x86 ∷ 0 ∷ 0 ∷ 0 ∷ []) ≡ nothing)
-unfolding pick at16 fault taken takeTac takeSac takeDynamic passOther byType tlvAt readFrom readArea
+refusals : (readArea (0x85 ∷ 0x0F ∷ 0 ∷ 4 ∷ 0x80 ∷ 0 ∷ 4 ∷ 0x80 ∷ []) ≡ refused badLength)
+    × (readArea (0x85 ∷ 0x0F ∷ 0 ∷ 5 ∷ 0x80 ∷ []) ≡ refused cutShort)
+    × (readArea (0x06 ∷ 0 ∷ 0 ∷ 0 ∷ []) ≡ refused unknownType)
+    × (readArea (0x86 ∷ 0 ∷ 0 ∷ 0 ∷ []) ≡ nothingFound)
+unfolding pick at16 takeTlv passOther byType tlvAt readFrom readArea
 refusals = (refl, refl, refl, refl)
 
 -- a second TAC is tried for 5 before its length is tried for 3
-order : readArea (0x85 ∷ 0x0F ∷ 0 ∷ 1 ∷ 0x80 ∷ 0x85 ∷ 0x0F ∷ 0 ∷ 0 ∷ []) ≡ refused 5
-unfolding pick at16 fault taken takeTac takeSac takeDynamic passOther byType tlvAt readFrom readArea
+order : readArea (0x85 ∷ 0x0F ∷ 0 ∷ 1 ∷ 0x80 ∷ 0x85 ∷ 0x0F ∷ 0 ∷ 0 ∷ []) ≡ refused repeated
+unfolding pick at16 takeTlv passOther byType tlvAt readFrom readArea
 order = refl
 
 -- examples 1, 2, 3, 4, 5, 6, 7, 8 and 11: an absent TAC has no octets, an empty one has its first
-values : (readArea [] ≡ nothing)
+values : (readArea [] ≡ nothingFound)
     × (tacOf (0x85 ∷ 0x0F ∷ 0 ∷ 5 ∷ 0x80 ∷ 0 ∷ 4 ∷ 0x80 ∷ 0 ∷ []) ≡ 0x80 ∷ 0 ∷ 4 ∷ 0x80 ∷ 0 ∷ [])
     × (tacOf (0x85 ∷ 0x0F ∷ 0 ∷ 1 ∷ 0x80 ∷ []) ≡ 0x80 ∷ [])
     × (tacOf (0x85 ∷ 0x0F ∷ 0 ∷ 9 ∷ 0x80 ∷ 0 ∷ 4 ∷ 0x80 ∷ 0 ∷ 0 ∷ 7 ∷ 0x80 ∷ 0 ∷ []) ≡ 0x80 ∷ 0 ∷ 4 ∷ 0x80 ∷ 0 ∷ 0 ∷ 7 ∷ 0x80 ∷ 0 ∷ [])
@@ -28,5 +30,5 @@ values : (readArea [] ≡ nothing)
     × (tacOf (0x85 ∷ 0x0F ∷ 0 ∷ 1 ∷ 0 ∷ []) ≡ 0 ∷ [])
     × (tacOf (0x85 ∷ 0x0F ∷ 0 ∷ 5 ∷ 0x80 ∷ 0 ∷ 14 ∷ 0x80 ∷ 0 ∷ []) ≡ 0x80 ∷ 0 ∷ 14 ∷ 0x80 ∷ 0 ∷ [])
     × (tacOf (0x85 ∷ 0x0F ∷ 0 ∷ 5 ∷ 0x80 ∷ 0 ∷ 4 ∷ 0 ∷ 0 ∷ []) ≡ 0x80 ∷ 0 ∷ 4 ∷ 0 ∷ 0 ∷ [])
-unfolding pick at16 fault taken takeTac takeSac takeDynamic passOther byType tlvAt readFrom readArea part
+unfolding pick at16 takeTlv passOther byType tlvAt readFrom readArea part
 values = (refl, refl, refl, refl, refl, refl, refl, refl, refl, refl)

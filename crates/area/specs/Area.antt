@@ -1,56 +1,54 @@
 -- Framing: what reading a parameter area finds. "TLVs from the left, each tried for 2, 4, 5, 3"; the first refusal is the answer.
 -- Assumes nothing.
 use Prim.Native.Nat.{ℕ, zero, suc, _+_, _-_, _*_, _%_}
-use mathlib.Core.List.{List}
-use mathlib.Core.Bool.{Bool, true, false, not, _&&_, _||_}
+use mathlib.Core.List.{List, [], _∷_}
+use mathlib.Core.Bool.{Bool, not, _&&_, _||_}
 use lib.ListN.{length, getD, take, drop}
 use lib.Dec.{ltb, leb, eqb}
 use Rattle.choice.specs.Pick.{pick}
+use Rattle.refusals.specs.Refusals.{notRefused, areaTooLong, cutShort, badLength, unknownType, repeated}
 use Rattle.area.specs.declared.Span.{Span}
 use Rattle.area.specs.declared.Reading.{Reading}
+use Rattle.area.specs.Found.{refused, nothingFound, tacStood, sacStood, dynamicStood, withTac, withSac, withDynamic}
 
--- the number refused with, and no octets: "an absent one, and both after a refusal, have no octets"
-abbrev pub none : Span
-none = record { start = 0; len = 0 }
+-- "a parameter area is 0 to 4,096 octets"
+abbrev pub areaMost : ℕ
+areaMost = 4096
 
-abbrev pub refused : ℕ → Reading
-refused n = record { refusal = n; tac = none; sac = none; dynamic = false }
+-- before a TLV's value stand "U (1 bit), F (1 bit), type (14 bits), length (16 bits)"
+abbrev pub headLength : ℕ
+headLength = 4
 
--- before the first TLV nothing is refused and nothing is found
-abbrev pub nothing : Reading
-nothing = refused 0
+abbrev pub uBit : ℕ
+uBit = 0x8000
 
--- 16 bits, "most significant octet first"
-unfoldable pub at16 : List ℕ → ℕ → ℕ
-at16 a at = getD a at 0 * 256 + getD a (at + 1) 0
+abbrev pub typeCount : ℕ
+typeCount = 0x4000
 
--- one of our three types, tried for 5, "a second time", and then for 3, a length that is not its own; 0 where it is taken
-unfoldable pub fault : Bool → Bool → ℕ
-fault again wrong = pick again 5 (pick wrong 3 0)
+abbrev pub typeOf : ℕ → ℕ
+typeOf head = head % typeCount
 
--- what was found with the TLV taken, or the refusal
-unfoldable pub taken : ℕ → Reading → Reading
-taken n found = pick (eqb n 0) found (refused n)
+-- "elements of 4 octets" in a TAC
+abbrev pub elementLength : ℕ
+elementLength = 4
 
--- TAC: 3 for "length 0 or not one more than a multiple of 4"
-unfoldable pub takeTac : ℕ → ℕ → Reading → Reading
-takeTac at len r =
-    taken (fault (ltb 0 (r .tac .len)) (not (eqb (len % 4) 1)))
-    (record { refusal = 0; tac = record { start = at; len = len }; sac = r .sac; dynamic = r .dynamic })
+-- 3 for "TAC length 0 or not one more than a multiple of 4; SAC length under 2; Dynamic length not 1"
+abbrev pub wrongTac : ℕ → Bool
+wrongTac len = not (eqb (len % elementLength) 1)
 
--- SAC: 3 for "length under 2"
-unfoldable pub takeSac : ℕ → ℕ → Reading → Reading
-takeSac at len r =
-    taken (fault (ltb 0 (r .sac .len)) (ltb len 2))
-    (record { refusal = 0; tac = r .tac; sac = record { start = at; len = len }; dynamic = r .dynamic })
+abbrev pub wrongSac : ℕ → Bool
+wrongSac len = ltb len 2
 
--- Dynamic Capability Announcement: 3 for "length not 1"; its octet is not read
-unfoldable pub takeDynamic : ℕ → Reading → Reading
-takeDynamic len r =
-    taken (fault (r .dynamic) (not (eqb len 1)))
-    (record { refusal = 0; tac = r .tac; sac = r .sac; dynamic = true })
+abbrev pub notOne : ℕ → Bool
+notOne len = not (eqb len 1)
 
--- the types that we read
+-- a type that we read: its number, the lengths that are wrong, whether it stood before, and what is found with its value
+pub record OurType : Type 0 where
+  pub number : ℕ
+  pub wrong : ℕ → Bool
+  pub stood : Reading → Bool
+  pub found : Span → Reading → Reading
+
 abbrev pub tacType : ℕ
 tacType = 0x050F
 
@@ -60,47 +58,56 @@ sacType = 0x050D
 abbrev pub dynamicType : ℕ
 dynamicType = 0x0506
 
--- U, the highest of the first 16 bits
-abbrev pub uBit : ℕ
-uBit = 0x8000
+-- "we read three types; their U and F bits are not read"
+abbrev pub ourTypes : List OurType
+ourTypes =
+    record { number = tacType; wrong = wrongTac; stood = tacStood; found = withTac }
+    ∷ record { number = sacType; wrong = wrongSac; stood = sacStood; found = withSac }
+    ∷ record { number = dynamicType; wrong = notOne; stood = dynamicStood; found = withDynamic }
+    ∷ []
 
--- the type is the lower 14 of the first 16 bits; U, which is read of the other types alone, is the highest
-abbrev pub typeOf : ℕ → ℕ
-typeOf head = head % 0x4000
+-- a TLV of ours, tried for 5, "a second time", and then for 3, a length that is wrong; else what is found with it
+unfoldable pub takeTlv : Bool → Bool → Reading → Reading
+takeTlv again wrong found = pick again (refused repeated) (pick wrong (refused badLength) found)
 
 -- "any other type is passed over when U is 1, or when its type is 0x0500 to 0x05FF"; else 4
 unfoldable pub passOther : ℕ → Reading → Reading
-passOther head r = pick (leb 0x8000 head || leb 0x0500 (typeOf head) && leb (typeOf head) 0x05FF) r (refused 4)
+passOther head r = pick (leb uBit head || leb 0x0500 (typeOf head) && leb (typeOf head) 0x05FF) r (refused unknownType)
 
--- a whole TLV by its type: `head` its first 16 bits, `at` where its value starts, `len` its length
-unfoldable pub byType : ℕ → ℕ → ℕ → Reading → Reading
-byType head at len r =
-    pick (eqb (typeOf head) 0x050F) (takeTac at len r)
-    (pick (eqb (typeOf head) 0x050D) (takeSac at len r)
-    (pick (eqb (typeOf head) 0x0506) (takeDynamic len r)
-    (passOther head r)))
+-- a whole TLV by its type, one of these or another: `head` its first 16 bits, `value` where its value stands
+abbrev pub among : List OurType → ℕ → Span → Reading → Reading
+among [] head value r = passOther head r
+among (t ∷ ts) head value r =
+    pick (eqb (typeOf head) (t .number)) (takeTlv (t .stood r) (t .wrong (value .len)) (t .found value r)) (among ts head value r)
+
+unfoldable pub byType : ℕ → Span → Reading → Reading
+byType head value r = among ourTypes head value r
+
+-- 16 bits, "most significant octet first"
+unfoldable pub at16 : List ℕ → ℕ → ℕ
+at16 a at = getD a at 0 * 256 + getD a (at + 1) 0
 
 -- the TLV at `at`: 2 for "1 to 3 octets remain where a TLV should start, or its value runs past the area"
 unfoldable pub tlvAt : List ℕ → ℕ → Reading → Reading
 tlvAt a at r =
-    pick (ltb (length a - at) 4) (refused 2)
-    (pick (ltb (length a - at - 4) (at16 a (at + 2))) (refused 2)
-    (byType (at16 a at) (at + 4) (at16 a (at + 2)) r))
+    pick (ltb (length a - at) headLength) (refused cutShort)
+    (pick (ltb (length a - at - headLength) (at16 a (at + 2))) (refused cutShort)
+    (byType (at16 a at) (record { start = at + headLength; len = at16 a (at + 2) }) r))
 
 -- where the TLV after the one at `at` starts
 abbrev pub nextAt : List ℕ → ℕ → ℕ
-nextAt a at = at + 4 + at16 a (at + 2)
+nextAt a at = at + headLength + at16 a (at + 2)
 
 -- the TLVs from `at` on, n at the most, after r was found
 unfoldable pub readFrom : ℕ → List ℕ → ℕ → Reading → Reading
 readFrom zero a at r = r
 readFrom (suc n) a at r =
     let t : Reading = tlvAt a at r in
-    pick (leb (length a) at) r (pick (eqb (t .refusal) 0) (readFrom n a (nextAt a at) t) t)
+    pick (leb (length a) at) r (pick (eqb (t .refusal) notRefused) (readFrom n a (nextAt a at) t) t)
 
--- the whole area: 1 for "over 4,096 octets". A TLV has 4 octets at least, so an area holds no more TLVs than octets
+-- the whole area: 1 for "over 4,096 octets". A TLV has octets, so an area holds no more TLVs than octets
 unfoldable pub readArea : List ℕ → Reading
-readArea a = pick (ltb 4096 (length a)) (refused 1) (readFrom (length a) a 0 nothing)
+readArea a = pick (ltb areaMost (length a)) (refused areaTooLong) (readFrom (length a) a 0 nothingFound)
 
 -- the octets of a part
 unfoldable pub part : List ℕ → Span → List ℕ

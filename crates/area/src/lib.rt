@@ -2,7 +2,8 @@
 ghost use mathlib.Core.Path.{_≡_};
 ghost use Prim.Native.Nat.{_+_, _≤_, _<_};
 ghost use lib.ListN.{length};
-ghost use Rattle.area.specs.Area.{refused, at16, fault, taken, takeTac, takeSac, takeDynamic, passOther, byType, tlvAt, readArea, part};
+ghost use Rattle.area.specs.Found.{refused, withTac, withSac, withDynamic};
+ghost use Rattle.area.specs.Area.{areaMost, at16, takeTlv, passOther, byType, tlvAt, readArea, part};
 
 // A part of an area: where it starts, and how many octets it has.
 #[repr(C)]
@@ -20,16 +21,30 @@ pub struct Reading {
     pub sac: Span,
 }
 
-const MOST: usize = 4096;
+const AREA_MOST: usize = 4096;
 
+// How many octets stand before a TLV's value: U, F, type, length.
+pub const HEAD_LENGTH: usize = 4;
+
+// U is the highest of the first 16 bits, and the type is the lower 14 of them.
+pub const U_BIT: usize = 0x8000;
+
+const TYPE_COUNT: usize = 0x4000;
+
+// How many octets an element of a TAC has.
+pub const ELEMENT_LENGTH: usize = 4;
+
+// The types that we read.
 pub const TAC: usize = 0x050F;
 
 const SAC: usize = 0x050D;
 
 const DYNAMIC: usize = 0x0506;
 
-// U, the highest of the first 16 bits.
-pub const U_BIT: usize = 0x8000;
+// Of the other types those that are passed over whatever their U.
+const PASSED_FIRST: usize = 0x0500;
+
+const PASSED_LAST: usize = 0x05FF;
 
 // A refusal, or for 0 the reading before the first TLV.
 fn refuse(n: u8) -> Reading
@@ -43,7 +58,96 @@ fn refuse(n: u8) -> Reading
     }
 }
 
-fn get16(a: &[u8], at: usize) -> usize
+// What was found, with a TLV's value in its slot.
+impl Reading {
+    fn with_tac(self, value: Span) -> Reading
+        ensures { λ r. ⌜ r ≡ withTac value self ⌝ }
+    {
+        let sac = self.sac;
+        Reading {
+            refusal: refusals::NOT_REFUSED,
+            dynamic: self.dynamic,
+            tac: value,
+            sac,
+        }
+    }
+
+    fn with_sac(self, value: Span) -> Reading
+        ensures { λ r. ⌜ r ≡ withSac value self ⌝ }
+    {
+        let tac = self.tac;
+        Reading {
+            refusal: refusals::NOT_REFUSED,
+            dynamic: self.dynamic,
+            tac,
+            sac: value,
+        }
+    }
+
+    fn with_dynamic(self, value: Span) -> Reading
+        ensures { λ r. ⌜ r ≡ withDynamic value self ⌝ }
+    {
+        let tac = self.tac;
+        let sac = self.sac;
+        Reading {
+            refusal: refusals::NOT_REFUSED,
+            dynamic: true,
+            tac,
+            sac,
+        }
+    }
+}
+
+// One of our types: refused where it stood before, then where its length is wrong; else what is found with it.
+fn take_tlv(again: bool, wrong: bool, found: Reading) -> Reading
+    ensures { λ r. ⌜ r ≡ takeTlv again wrong found ⌝ }
+{
+    if again {
+        return refuse(refusals::REPEATED);
+    }
+    if wrong {
+        return refuse(refusals::BAD_LENGTH);
+    }
+    found
+}
+
+// A type that is none of ours. `head` is U, F and the type.
+fn pass_other(head: usize, r: Reading) -> Reading
+    ensures { λ s. ⌜ s ≡ passOther head r ⌝ }
+{
+    if U_BIT <= head {
+        return r;
+    }
+    let t = head % TYPE_COUNT;
+    if t < PASSED_FIRST {
+        return refuse(refusals::UNKNOWN_TYPE);
+    }
+    if PASSED_LAST < t {
+        return refuse(refusals::UNKNOWN_TYPE);
+    }
+    r
+}
+
+// A whole TLV, by its type.
+fn by_type(head: usize, value: Span, r: Reading) -> Reading
+    ensures { λ s. ⌜ s ≡ byType head value r ⌝ }
+{
+    let t = head % TYPE_COUNT;
+    let len = value.len as usize;
+    if t == TAC {
+        return take_tlv(0 < r.tac.len, len % ELEMENT_LENGTH != 1, r.with_tac(value));
+    }
+    if t == SAC {
+        return take_tlv(0 < r.sac.len, len < 2, r.with_sac(value));
+    }
+    if t == DYNAMIC {
+        return take_tlv(r.dynamic, len != 1, r.with_dynamic(value));
+    }
+    pass_other(head, r)
+}
+
+// 16 bits at a place of the octets.
+pub fn at16(a: &[u8], at: usize) -> usize
     requires { ⌜ at + 2 ≤ length (now a) ⌝ }
     ensures value { λ r. ⌜ r ≡ at16 (now (a .entry)) at ⌝ }
     ensures most { λ r. ⌜ r < 65536 ⌝ }
@@ -53,32 +157,9 @@ fn get16(a: &[u8], at: usize) -> usize
     high * 256 + low
 }
 
-// One of our types: 5 where it stood before, then 3 where its length is wrong, else 0.
-fn fault(again: bool, wrong: bool) -> u8
-    ensures { λ r. ⌜ r ≡ fault again wrong ⌝ }
-{
-    if again {
-        return 5;
-    }
-    if wrong {
-        return 3;
-    }
-    0
-}
-
-// What was found with the TLV taken, or the refusal.
-fn taken(n: u8, found: Reading) -> Reading
-    ensures { λ r. ⌜ r ≡ taken n found ⌝ }
-{
-    if n == 0 {
-        return found;
-    }
-    refuse(n)
-}
-
 // A part within an area.
 fn part_at(at: usize, len: usize) -> Span
-    requires { ⌜ at + len ≤ 4096 ⌝ }
+    requires { ⌜ at + len ≤ areaMost ⌝ }
     ensures { λ r. ⌜ r ≡ record { start = at; len = len } ⌝ }
 {
     Span {
@@ -87,114 +168,37 @@ fn part_at(at: usize, len: usize) -> Span
     }
 }
 
-fn take_tac(at: usize, len: usize, r: Reading) -> Reading
-    requires { ⌜ at + len ≤ 4096 ⌝ }
-    ensures { λ s. ⌜ s ≡ takeTac at len r ⌝ }
-{
-    let sac = r.sac;
-    let found = Reading {
-        refusal: 0,
-        dynamic: r.dynamic,
-        tac: part_at(at, len),
-        sac,
-    };
-    taken(fault(0 < r.tac.len, len % 4 != 1), found)
-}
-
-fn take_sac(at: usize, len: usize, r: Reading) -> Reading
-    requires { ⌜ at + len ≤ 4096 ⌝ }
-    ensures { λ s. ⌜ s ≡ takeSac at len r ⌝ }
-{
-    let tac = r.tac;
-    let found = Reading {
-        refusal: 0,
-        dynamic: r.dynamic,
-        tac,
-        sac: part_at(at, len),
-    };
-    taken(fault(0 < r.sac.len, len < 2), found)
-}
-
-fn take_dynamic(len: usize, r: Reading) -> Reading
-    ensures { λ s. ⌜ s ≡ takeDynamic len r ⌝ }
-{
-    let tac = r.tac;
-    let sac = r.sac;
-    let found = Reading {
-        refusal: 0,
-        dynamic: true,
-        tac,
-        sac,
-    };
-    taken(fault(r.dynamic, len != 1), found)
-}
-
-// A type that is none of ours. `head` is U, F and the type.
-fn pass_other(head: usize, r: Reading) -> Reading
-    ensures { λ s. ⌜ s ≡ passOther head r ⌝ }
-{
-    if 0x8000 <= head {
-        return r;
-    }
-    let tlv_type = head % 0x4000;
-    if tlv_type < 0x0500 {
-        return refuse(4);
-    }
-    if 0x05FF < tlv_type {
-        return refuse(4);
-    }
-    r
-}
-
-// A whole TLV, by its type.
-fn by_type(head: usize, at: usize, len: usize, r: Reading) -> Reading
-    requires { ⌜ at + len ≤ 4096 ⌝ }
-    ensures { λ s. ⌜ s ≡ byType head at len r ⌝ }
-{
-    let tlv_type = head % 0x4000;
-    if tlv_type == TAC {
-        return take_tac(at, len, r);
-    }
-    if tlv_type == SAC {
-        return take_sac(at, len, r);
-    }
-    if tlv_type == DYNAMIC {
-        return take_dynamic(len, r);
-    }
-    pass_other(head, r)
-}
-
 // The TLV at a place, after r was found.
 fn tlv_at(a: &[u8], at: usize, r: Reading) -> Reading
-    requires { ⌜ (at ≤ length (now a)) × (length (now a) ≤ 4096) ⌝ }
+    requires { ⌜ (at ≤ length (now a)) × (length (now a) ≤ areaMost) ⌝ }
     ensures { λ s. ⌜ s ≡ tlvAt (now (a .entry)) at r ⌝ }
 {
-    let left = a.len() - at;
-    if left < 4 {
-        return refuse(2);
+    let rest = a.len() - at;
+    if rest < HEAD_LENGTH {
+        return refuse(refusals::CUT_SHORT);
     }
-    let len = get16(a, at + 2);
-    if left - 4 < len {
-        return refuse(2);
+    let len = at16(a, at + 2);
+    if rest - HEAD_LENGTH < len {
+        return refuse(refusals::CUT_SHORT);
     }
-    by_type(get16(a, at), at + 4, len, r)
+    by_type(at16(a, at), part_at(at + HEAD_LENGTH, len), r)
 }
 
 // What reading the whole area finds. One walk serves Initialization and Capability messages.
 pub fn read_area(area: &[u8]) -> Reading
     ensures { λ r. ⌜ r ≡ readArea (now (area .entry)) ⌝ }
 {
-    if MOST < area.len() {
-        return refuse(1);
+    if AREA_MOST < area.len() {
+        return refuse(refusals::AREA_TOO_LONG);
     }
     let mut at = 0;
-    let mut found = refuse(0);
+    let mut found = refuse(refusals::NOT_REFUSED);
     while at < area.len() {
         let t = tlv_at(area, at, found);
-        if t.refusal != 0 {
+        if t.refusal != refusals::NOT_REFUSED {
             return t;
         }
-        at = at + 4 + get16(area, at + 2);
+        at = at + HEAD_LENGTH + at16(area, at + 2);
         found = t;
     }
     found

@@ -1,6 +1,6 @@
--- Applications and kinds, as document 01 has them. A targeted application (1 to 13) and a SAC App (1 to 4) are numbered separately; in a set
--- each stands at the place one below its number, a kind at its own. Assumes nothing.
-use Prim.Native.Nat.{ℕ, zero, suc, _+_, _-_, _≤_}
+-- Applications and kinds, as document 01 has them. "A targeted application and a SAC application are numbered separately": in a set each stands
+-- at the place one below its number, a kind at its own. Assumes nothing.
+use Prim.Native.Nat.{ℕ, zero, suc, _+_, _-_, _^_, _≤_}
 use mathlib.Core.Path.{_≡_}
 use mathlib.Core.Bool.{Bool, true, _&&_}
 use mathlib.Core.List.{List, [], _∷_}
@@ -9,66 +9,91 @@ use lib.Dec.{eqb}
 use Rattle.choice.specs.Pick.{pick}
 use Rattle.sets.specs.Set.{has, union, with, numbered}
 
--- TA-Ids 1 to 13 are known: "any other TA-Id, 0 included, is unknown"
+-- TA-Ids 1 to 13, kinds 0 to 9, SAC Apps 1 to 4
+abbrev pub applicationCount : ℕ
+applicationCount = 13
+
+abbrev pub kindCount : ℕ
+kindCount = 10
+
+abbrev pub appCount : ℕ
+appCount = 4
+
+-- the sets of all of them
+abbrev pub allApplications : ℕ
+allApplications = 2 ^ applicationCount - 1
+
+abbrev pub allKinds : ℕ
+allKinds = 2 ^ kindCount - 1
+
+-- "any other TA-Id, 0 included, is unknown"
 abbrev pub knownApplication : ℕ → Bool
-knownApplication n = numbered 13 n
+knownApplication n = numbered applicationCount n
 
 -- the application n is in the set
 unfoldable pub isIn : ℕ → ℕ → Bool
 isIn applications n = knownApplication n && has applications (n - 1)
 
--- "each row names the kinds that the application opens", TA-Id 1 to 13. Row 8, Session Protection, is the session's protected kinds
-abbrev pub rows : List (List ℕ)
-rows =
-    (0 ∷ [])
-    ∷ (1 ∷ [])
-    ∷ (2 ∷ 3 ∷ 4 ∷ 5 ∷ 6 ∷ [])
-    ∷ (0 ∷ [])
-    ∷ (1 ∷ [])
-    ∷ (7 ∷ [])
-    ∷ (8 ∷ [])
-    ∷ []
-    ∷ []
-    ∷ (9 ∷ [])
-    ∷ (2 ∷ 3 ∷ 4 ∷ 5 ∷ 6 ∷ [])
-    ∷ (0 ∷ [])
-    ∷ (1 ∷ [])
+-- TA-Id 8, whose kinds are "the session's protected kinds"
+abbrev pub sessionProtection : ℕ
+sessionProtection = 8
+
+-- the kinds that each application opens, from TA-Id 1 on
+abbrev pub opensTable : List (List ℕ)
+opensTable =
+    (0 ∷ [])  -- 1 LDPv4 Tunneling
+    ∷ (1 ∷ [])  -- 2 LDPv6 Tunneling
+    ∷ (2 ∷ 3 ∷ 4 ∷ 5 ∷ 6 ∷ [])  -- 3 mLDP Tunneling
+    ∷ (0 ∷ [])  -- 4 LDPv4 Remote LFA
+    ∷ (1 ∷ [])  -- 5 LDPv6 Remote LFA
+    ∷ (7 ∷ [])  -- 6 FEC 128 PW
+    ∷ (8 ∷ [])  -- 7 FEC 129 PW
+    ∷ []  -- 8 Session Protection
+    ∷ []  -- 9 ICCP
+    ∷ (9 ∷ [])  -- 10 P2MP PW
+    ∷ (2 ∷ 3 ∷ 4 ∷ 5 ∷ 6 ∷ [])  -- 11 mLDP Node Protection
+    ∷ (0 ∷ [])  -- 12 IPv4 intra-area FECs
+    ∷ (1 ∷ [])  -- 13 IPv6 intra-area FECs
     ∷ []
 
 -- "SAC App 1, 2, 3, 4 controls kind 0, 1, 7, 8"
-abbrev pub controls : List (List ℕ)
-controls = (0 ∷ []) ∷ (1 ∷ []) ∷ (7 ∷ []) ∷ (8 ∷ []) ∷ []
+abbrev pub controlsTable : List (List ℕ)
+controlsTable = (0 ∷ []) ∷ (1 ∷ []) ∷ (7 ∷ []) ∷ (8 ∷ []) ∷ []
 
--- the members of a row as a set
+-- these kinds as a set
 unfoldable pub setOf : List ℕ → ℕ
 setOf [] = 0
 setOf (k ∷ ks) = with (setOf ks) k
 
 -- the kinds that the application n opens in a session with these protected kinds; an unknown one opens none
 unfoldable pub opens : ℕ → ℕ → ℕ
-opens protects n = pick (knownApplication n) (pick (eqb n 8) protects (setOf (getD rows (n - 1) []))) 0
+opens protects n =
+    pick (knownApplication n) (pick (eqb n sessionProtection) protects (setOf (getD opensTable (n - 1) []))) 0
 
 -- the kinds that the App n controls; "App 0 and 5 to 7 are skipped"
 unfoldable pub controlled : ℕ → ℕ
-controlled n = pick (numbered 4 n) (setOf (getD controls (n - 1) [])) 0
+controlled n = pick (numbered appCount n) (setOf (getD controlsTable (n - 1) [])) 0
 
--- what the members of a set of the numbers 1 to w stand for, by a row for each number
+-- the kinds that the number at place i of a set stands for, where it is in the set; and those of the numbers 1 to w together
+abbrev pub member : (ℕ → ℕ) → ℕ → ℕ → ℕ
+member kindsOf s i = pick (has s i) (kindsOf (i + 1)) 0
+
 unfoldable pub gather : (ℕ → ℕ) → ℕ → ℕ → ℕ
-gather row zero s = 0
-gather row (suc w) s = union (gather row w s) (pick (has s w) (row (w + 1)) 0)
+gather kindsOf zero s = 0
+gather kindsOf (suc w) s = union (gather kindsOf w s) (member kindsOf s w)
 
 -- the kinds that a set of applications opens
 unfoldable pub opened : ℕ → ℕ → ℕ
-opened protects applications = gather (opens protects) 13 applications
+opened protects applications = gather (opens protects) applicationCount applications
 
 -- the kinds that a set of Apps disables
 unfoldable pub disables : ℕ → ℕ
-disables apps = gather controlled 4 apps
+disables apps = gather controlled appCount apps
 
--- a number of 1 to w in the set, whose row has the kind k
-pub record Some (row : ℕ → ℕ) (w s k : ℕ) : Type 0 where
+-- a number of 1 to w in the set, that stands for the kind k
+pub record Some (kindsOf : ℕ → ℕ) (w s k : ℕ) : Type 0 where
   pub number : ℕ
   pub least : 1 ≤ number
   pub most : number ≤ w
   pub member : has s (number - 1) ≡ true
-  pub maps : has (row number) k ≡ true
+  pub maps : has (kindsOf number) k ≡ true

@@ -5,6 +5,7 @@ use mathlib.Core.List.{[], _∷_}
 use mathlib.Core.Bool.{true, false}
 use Rattle.choice.specs.Pick.{pick}
 use Rattle.sets.specs.Set.{union, minus, with, without, numbered, switched}
+use Rattle.area.specs.Area.{at16}
 use Rattle.lists.specs.Tac.{sBit, idAt, eAt, stood, after, tacList}
 use Rattle.lists.specs.Sac.{sacElement, sacAfter, sacList}
 
@@ -14,14 +15,14 @@ listed : (tacList (0x80 ∷ 0 ∷ 4 ∷ 0x80 ∷ 0 ∷ []) true 0 ≡ 0x08)
     × (tacList (0x80 ∷ 0 ∷ 4 ∷ 0x80 ∷ 0 ∷ 0 ∷ 7 ∷ 0x80 ∷ 0 ∷ []) true 0 ≡ 0x48)
     × (tacList (0x80 ∷ 0 ∷ 14 ∷ 0x80 ∷ 0 ∷ []) true 0 ≡ 0)
     × (tacList (0x80 ∷ 0 ∷ 4 ∷ 0 ∷ 0 ∷ []) true 0 ≡ 0x08)
-unfolding pick union minus with without numbered switched idAt eAt stood after tacList
+unfolding pick union minus with without numbered switched at16 idAt eAt stood after tacList
 listed = (refl, refl, refl, refl, refl)
 
 -- Capability message: example 7 removes 7, whatever the second element says; 8 has S = 0
 changed : (tacList (0x80 ∷ 0 ∷ 7 ∷ 0 ∷ 0 ∷ 0 ∷ 7 ∷ 0x80 ∷ 0 ∷ []) false 0x48 ≡ 0x08)
     × (sBit (0x80 ∷ 0 ∷ 7 ∷ 0 ∷ 0 ∷ 0 ∷ 7 ∷ 0x80 ∷ 0 ∷ []) ≡ true)
     × (sBit (0 ∷ []) ≡ false)
-unfolding pick union minus with without numbered switched idAt eAt stood after tacList sBit
+unfolding pick union minus with without numbered switched at16 idAt eAt stood after tacList sBit
 changed = (refl, refl, refl)
 
 -- Capability message: example 5 disables App 4, which controls kind 8, and 6 enables it again; in an opening the same octets do nothing

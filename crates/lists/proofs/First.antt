@@ -13,7 +13,8 @@ use Rattle.choice.proofs.Branch.{by-test, taken, left}
 use Rattle.sets.specs.Set.{has, switched}
 use Rattle.sets.proofs.Members.{has-none}
 use Rattle.sets.proofs.Switches.{switched-same, switched-other, switched-lt}
-use Rattle.lists.specs.Tac.{count, idAt, eAt, stood, after, tacList, First}
+use Rattle.kinds.specs.Kinds.{applicationCount}
+use Rattle.lists.specs.Tac.{elementCount, idAt, adds, stood, after, tacList, First}
 use Rattle.lists.proofs.Turn.{stood-found}
 
 -- where no element has the identifier, it did not stand
@@ -22,7 +23,7 @@ unfolding stood
 stood-none v n zero f = refl
 stood-none v n (suc i) f = simp (ne-eqb _ _ (f i (omega arith))) (stood-none v n i (λ j h. f j (omega arith)))
 
-module _ (v : List ℕ) (opening : Bool) (s n : ℕ) (least : 1 ≤ n) (most : n ≤ 13) where
+module _ (v : List ℕ) (opening : Bool) (s n : ℕ) (least : 1 ≤ n) (most : n ≤ applicationCount) where
   inSet : ℕ → Bool
   inSet i = has (after v opening s i) (n - 1)
 
@@ -36,20 +37,20 @@ module _ (v : List ℕ) (opening : Bool) (s n : ℕ) (least : 1 ≤ n) (most : n
 
       go : Dec (idAt v i ≡ n) → inSet (suc i) ≡ inSet i
       go (yes p) = ap (λ (x : ℕ). has x (n - 1)) (taken _ _ (rw p (f p)))
-      go (no p) = by-test same (λ _. refl) (λ _. switched-other 13 (after v opening s i) (idAt v i) (opening || eAt v i) (n - 1) (λ e. p (omega arith)))
+      go (no p) = by-test same (λ _. refl) (λ _. switched-other applicationCount (after v opening s i) (idAt v i) (adds v opening i) (n - 1) (λ e. p (omega arith)))
 
   -- the first element that names n says whether it is in the set
-  says : (i : ℕ) → idAt v i ≡ n → stood v n i ≡ false → inSet (suc i) ≡ (opening || eAt v i)
+  says : (i : ℕ) → idAt v i ≡ n → stood v n i ≡ false → inSet (suc i) ≡ (adds v opening i)
   unfolding inSet after
   says i p e =
-      ap (λ (x : ℕ). has x (n - 1)) (left _ _ (rw p e) ∙ ap (λ (m : ℕ). switched 13 (after v opening s i) m (opening || eAt v i)) p)
-      ∙ switched-same 13 (after v opening s i) n (opening || eAt v i) least most
+      ap (λ (x : ℕ). has x (n - 1)) (left _ _ (rw p e) ∙ ap (λ (m : ℕ). switched applicationCount (after v opening s i) m (adds v opening i)) p)
+      ∙ switched-same applicationCount (after v opening s i) n (adds v opening i) least most
 
-  first-among : (i j : ℕ) → j < i → First v n j → inSet i ≡ (opening || eAt v j)
+  first-among : (i j : ℕ) → j < i → First v n j → inSet i ≡ (adds v opening j)
   first-among zero j h d = absurd (omega arith)
   first-among (suc i) j h d = go (λ l. first-among i j l d) (decLt j i)
     where
-      go : (j < i → inSet i ≡ (opening || eAt v j)) → Dec (j < i) → inSet (suc i) ≡ (opening || eAt v j)
+      go : (j < i → inSet i ≡ (adds v opening j)) → Dec (j < i) → inSet (suc i) ≡ (adds v opening j)
       go f (yes l) = keeps i (λ _. stood-found v n j i l (d .named)) ∙ f l
       go f (no l) = let e : j ≡ i = omega arith in rw e (says i (rw e at (d .named)) (stood-none v n i (rw e at (d .before))))
 
@@ -58,16 +59,16 @@ module _ (v : List ℕ) (opening : Bool) (s n : ℕ) (least : 1 ≤ n) (most : n
   none-among zero f = refl
   none-among (suc i) f = keeps i (λ p. absurd (f i (omega arith) p)) ∙ none-among i (λ j h. f j (omega arith))
 
-  pub first-decides : (i : ℕ) → i < count v → First v n i → has (tacList v opening s) (n - 1) ≡ (opening || eAt v i)
+  pub first-decides : (i : ℕ) → i < elementCount v → First v n i → has (tacList v opening s) (n - 1) ≡ (adds v opening i)
   unfolding tacList inSet
-  first-decides i h d = first-among (count v) i h d
+  first-decides i h d = first-among (elementCount v) i h d
 
-  pub absent-stays : ((i : ℕ) → i < count v → idAt v i ≡ n → ⊥) → has (tacList v opening s) (n - 1) ≡ has s (n - 1)
+  pub absent-stays : ((i : ℕ) → i < elementCount v → idAt v i ≡ n → ⊥) → has (tacList v opening s) (n - 1) ≡ has s (n - 1)
   unfolding tacList inSet
-  absent-stays f = none-among (count v) f
+  absent-stays f = none-among (elementCount v) f
 
 -- ---- Initialization: "the peer's list is every known TA-Id present"
-module _ (v : List ℕ) (n : ℕ) (least : 1 ≤ n) (most : n ≤ 13) where
+module _ (v : List ℕ) (n : ℕ) (least : 1 ≤ n) (most : n ≤ applicationCount) where
   present : (i : ℕ) → has (after v true 0 i) (n - 1) ≡ stood v n i
   unfolding after stood inSet
   present zero = has-none (n - 1)
@@ -79,18 +80,18 @@ module _ (v : List ℕ) (n : ℕ) (least : 1 ≤ n) (most : n ≤ 13) where
       go (yes p) false q h = says v true 0 n least most i p q ∙ sym (ap (λ (b : Bool). b || stood v n i) (eq-eqb _ _ p))
       go (no p) x q h = keeps v true 0 n least most i (λ e. absurd (p e)) ∙ h ∙ sym (ap (λ (b : Bool). b || stood v n i) (ne-eqb _ _ p))
 
-  pub listed-present : has (tacList v true 0) (n - 1) ≡ stood v n (count v)
+  pub listed-present : has (tacList v true 0) (n - 1) ≡ stood v n (elementCount v)
   unfolding tacList
-  listed-present = present (count v)
+  listed-present = present (elementCount v)
 
 -- ---- no bits beyond the applications
-after-lt : (v : List ℕ) (opening : Bool) (s : ℕ) → s < 2 ^ 13 → (i : ℕ) → after v opening s i < 2 ^ 13
+after-lt : (v : List ℕ) (opening : Bool) (s : ℕ) → s < 2 ^ applicationCount → (i : ℕ) → after v opening s i < 2 ^ applicationCount
 unfolding after
 after-lt v opening s h zero = h
 after-lt v opening s h (suc i) =
-    let t : after v opening s i < 2 ^ 13 = after-lt v opening s h i in
-    by-test (λ (x : ℕ). x < 2 ^ 13) (λ _. t) (λ _. switched-lt 13 (after v opening s i) (idAt v i) (opening || eAt v i) 13 (omega arith) t)
+    let t : after v opening s i < 2 ^ applicationCount = after-lt v opening s h i in
+    by-test (λ (x : ℕ). x < 2 ^ applicationCount) (λ _. t) (λ _. switched-lt applicationCount (after v opening s i) (idAt v i) (adds v opening i) applicationCount (omega arith) t)
 
-pub tac-list-lt : (v : List ℕ) (opening : Bool) (s : ℕ) → s < 2 ^ 13 → tacList v opening s < 2 ^ 13
+pub tac-list-lt : (v : List ℕ) (opening : Bool) (s : ℕ) → s < 2 ^ applicationCount → tacList v opening s < 2 ^ applicationCount
 unfolding tacList
-tac-list-lt v opening s h = after-lt v opening s h (count v)
+tac-list-lt v opening s h = after-lt v opening s h (elementCount v)

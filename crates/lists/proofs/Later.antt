@@ -13,21 +13,22 @@ use Rattle.choice.proofs.Branch.{by-test, left}
 use Rattle.choice.proofs.Tests.{and-first, and-second, not-false}
 use Rattle.sets.specs.Set.{has, switched}
 use Rattle.sets.proofs.Switches.{switched-same, switched-other, switched-lt}
+use Rattle.kinds.specs.Kinds.{appCount}
 use Rattle.lists.specs.Sac.{dOf, appOf, idle, sacElement, elementAt, sacAfter, sacList, acts, Last}
 
-module _ (opening : Bool) (n : ℕ) (least : 1 ≤ n) (most : n ≤ 4) where
+module _ (opening : Bool) (n : ℕ) (least : 1 ≤ n) (most : n ≤ appCount) where
   does : (s x : ℕ) → acts opening n x ≡ true → has (sacElement opening s x) (n - 1) ≡ dOf x
   unfolding acts sacElement
   does s x h =
       let app : appOf x ≡ n = eqb-true (appOf x) n (and-first _ _ h) in
-      ap (λ (t : ℕ). has t (n - 1)) (left _ _ (not-false _ (and-second (eqb (appOf x) n) (not (idle opening x)) h)) ∙ ap (λ (m : ℕ). switched 4 s m (dOf x)) app)
-      ∙ switched-same 4 s n (dOf x) least most
+      ap (λ (t : ℕ). has t (n - 1)) (left _ _ (not-false _ (and-second (eqb (appOf x) n) (not (idle opening x)) h)) ∙ ap (λ (m : ℕ). switched appCount s m (dOf x)) app)
+      ∙ switched-same appCount s n (dOf x) least most
 
   does-not : (s x : ℕ) → (acts opening n x ≡ true → ⊥) → has (sacElement opening s x) (n - 1) ≡ has s (n - 1)
   unfolding acts sacElement
   does-not s x h =
       by-test (λ (t : ℕ). has t (n - 1) ≡ has s (n - 1)) (λ _. refl)
-      (λ q. switched-other 4 s (appOf x) (dOf x) (n - 1) (λ e. let app : appOf x ≡ n = omega arith in h (ap (λ (b : Bool). b && not (idle opening x)) (eq-eqb _ _ app) ∙ ap not q)))
+      (λ q. switched-other appCount s (appOf x) (dOf x) (n - 1) (λ e. let app : appOf x ≡ n = omega arith in h (ap (λ (b : Bool). b && not (idle opening x)) (eq-eqb _ _ app) ∙ ap not q)))
 
   module _ (v : List ℕ) (s : ℕ) where
     last-among : (i j : ℕ) → Last v opening n i j → has (sacAfter v opening s i) (n - 1) ≡ dOf (elementAt v j)
@@ -59,13 +60,13 @@ module _ (opening : Bool) (n : ℕ) (least : 1 ≤ n) (most : n ≤ 4) where
     idle-stays f = none-among (length v - 1) f
 
 -- ---- no bits beyond the Apps
-after-lt : (v : List ℕ) (opening : Bool) (s : ℕ) → s < 2 ^ 4 → (i : ℕ) → sacAfter v opening s i < 2 ^ 4
+after-lt : (v : List ℕ) (opening : Bool) (s : ℕ) → s < 2 ^ appCount → (i : ℕ) → sacAfter v opening s i < 2 ^ appCount
 unfolding sacAfter sacElement
 after-lt v opening s h zero = h
 after-lt v opening s h (suc i) =
-    let t : sacAfter v opening s i < 2 ^ 4 = after-lt v opening s h i in
-    by-test (λ (x : ℕ). x < 2 ^ 4) (λ _. t) (λ _. switched-lt 4 (sacAfter v opening s i) (appOf (elementAt v i)) (dOf (elementAt v i)) 4 (omega arith) t)
+    let t : sacAfter v opening s i < 2 ^ appCount = after-lt v opening s h i in
+    by-test (λ (x : ℕ). x < 2 ^ appCount) (λ _. t) (λ _. switched-lt appCount (sacAfter v opening s i) (appOf (elementAt v i)) (dOf (elementAt v i)) appCount (omega arith) t)
 
-pub sac-list-lt : (v : List ℕ) (opening : Bool) (s : ℕ) → s < 2 ^ 4 → sacList v opening s < 2 ^ 4
+pub sac-list-lt : (v : List ℕ) (opening : Bool) (s : ℕ) → s < 2 ^ appCount → sacList v opening s < 2 ^ appCount
 unfolding sacList
 sac-list-lt v opening s h = after-lt v opening s h (length v - 1)

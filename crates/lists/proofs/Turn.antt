@@ -10,7 +10,8 @@ use lib.Dec.{eqb}
 use borrow.Author.Tests.{eqb-false, ne-eqb}
 use Rattle.choice.specs.Pick.{pick}
 use Rattle.sets.specs.Set.{switched}
-use Rattle.lists.specs.Tac.{idAt, eAt, stood, after}
+use Rattle.kinds.specs.Kinds.{applicationCount}
+use Rattle.lists.specs.Tac.{idAt, adds, stood, after}
 
 -- one more element without the identifier
 pub stood-more : (v : List ℕ) (n j : ℕ) → (idAt v j ≡ n → ⊥) → stood v n j ≡ false → stood v n (j + 1) ≡ false
@@ -34,6 +35,6 @@ module _ (v : List ℕ) (opening : Bool) (s i : ℕ) where
   repeat j p q r h = simp (add-one, stood-found v (idAt v i) j i h (sym q ∙ r ∙ p))
 
   -- none of the elements before element i has its identifier
-  pub fresh : {x : ℕ} → x ≡ idAt v i → stood v x i ≡ false → switched 13 (after v opening s i) x (opening || eAt v i) ≡ after v opening s (i + 1)
+  pub fresh : {x : ℕ} → x ≡ idAt v i → stood v x i ≡ false → switched applicationCount (after v opening s i) x (adds v opening i) ≡ after v opening s (i + 1)
   unfolding after pick
   fresh p e = rw p (simp (add-one, (rw p at e)))

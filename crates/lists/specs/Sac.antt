@@ -5,13 +5,15 @@ use mathlib.Core.Path.{_≡_}
 use mathlib.Core.List.{List}
 use mathlib.Core.Bool.{Bool, true, not, _&&_}
 use lib.ListN.{length, getD}
-use lib.Dec.{eqb, leb}
+use lib.Dec.{eqb}
 use Rattle.choice.specs.Pick.{pick}
 use Rattle.sets.specs.Set.{switched}
+use Rattle.kinds.specs.Kinds.{appCount}
+use Rattle.octets.specs.Octets.{hasTopBit}
 
 -- an element: "D (top bit), App (3 bits), 4 unused bits"
 abbrev pub dOf : ℕ → Bool
-dOf x = leb 128 x
+dOf x = hasTopBit x
 
 abbrev pub appOf : ℕ → ℕ
 appOf x = x / 16 % 8
@@ -22,7 +24,7 @@ idle opening x = not (dOf x) && opening
 
 -- one element: "D = 1 disables, D = 0 enables"; App 0 and 5 to 7 are skipped
 unfoldable pub sacElement : Bool → ℕ → ℕ → ℕ
-sacElement opening s x = pick (idle opening x) s (switched 4 s (appOf x) (dOf x))
+sacElement opening s x = pick (idle opening x) s (switched appCount s (appOf x) (dOf x))
 
 -- element i, counted from 0
 abbrev pub elementAt : List ℕ → ℕ → ℕ

@@ -7,17 +7,20 @@ use mathlib.Core.Bool.{Bool, true, false}
 use lib.ListN.{length, drop}
 use lib.Dec.{leb}
 use Rattle.choice.specs.Pick.{pick}
-use Rattle.octets.proofs.Numbers.{forth16}
+use Rattle.octets.proofs.Numbers.{forth16, top-back}
 use Rattle.sets.specs.Set.{switched}
+use Rattle.kinds.specs.Kinds.{applicationCount}
+use Rattle.refusals.specs.Refusals.{notRefused}
 use Rattle.area.specs.declared.Reading.{Reading}
-use Rattle.area.specs.Area.{none, at16, fault, taken, takeTac, takeSac, takeDynamic, passOther, byType, tlvAt, readFrom, readArea, part}
+use Rattle.area.specs.Found.{none}
+use Rattle.area.specs.Area.{at16, takeTlv, passOther, byType, tlvAt, readFrom, readArea, part}
 use Rattle.lists.specs.Tac.{sBit, idAt, eAt, stood, after, tacList}
 use Rattle.message.specs.declared.Message.the-variants.{Change}
-use Rattle.message.specs.Message.{topBit, oneElement, tacOctets, messageOf, octetsOf, changeLength}
+use Rattle.message.specs.Message.{oneElement, tacOctets, messageOf, octetsOf, changeLength}
 
 -- the reading of such an area: a TAC of 5 octets from the fifth on, and nothing else
 abbrev pub oneTac : Reading
-oneTac = record { refusal = 0; tac = record { start = 4; len = 5 }; sac = none; dynamic = false }
+oneTac = record { refusal = notRefused; tac = record { start = 4; len = 5 }; sac = none; dynamic = false }
 
 module _ (number n : ℕ) (on : Bool) where
   pub change-length : length (octetsOf (Change number n on)) ≡ changeLength
@@ -27,22 +30,17 @@ module _ (number n : ℕ) (on : Bool) where
   last-nine = refl
 
   pub read-back : readArea (tacOctets n on) ≡ oneTac
-  unfolding pick at16 fault taken takeTac takeSac takeDynamic passOther byType tlvAt readFrom readArea
+  unfolding pick at16 takeTlv passOther byType tlvAt readFrom readArea
   read-back = refl
 
   pub value-back : part (tacOctets n on) (oneTac .tac) ≡ oneElement n on
   unfolding part
   value-back = refl
 
-e-back : (on : Bool) → leb 128 (topBit on) ≡ on
-unfolding pick
-e-back true = refl
-e-back false = refl
-
 pub s-back : (n : ℕ) (on : Bool) → sBit (oneElement n on) ≡ true
 unfolding sBit pick
 s-back n on = refl
 
-pub list-back : (n : ℕ) (on : Bool) (s : ℕ) → n < 65536 → tacList (oneElement n on) false s ≡ switched 13 s n on
-unfolding tacList after stood idAt eAt pick
-list-back n on s h = ap₂ (λ (m : ℕ) (b : Bool). switched 13 s m b) (forth16 n h) (e-back on)
+pub list-back : (n : ℕ) (on : Bool) (s : ℕ) → n < 65536 → tacList (oneElement n on) false s ≡ switched applicationCount s n on
+unfolding tacList after stood at16 idAt eAt pick
+list-back n on s h = ap₂ (λ (m : ℕ) (b : Bool). switched applicationCount s m b) (forth16 n h) (top-back on)

@@ -6,16 +6,13 @@ use mathlib.Core.List.{List, [], _∷_, _++_}
 use lib.ListN.{length}
 use lib.Dec.{ltb}
 use Rattle.choice.specs.Pick.{pick}
-use Rattle.octets.specs.Octets.{be16, be32, over}
+use Rattle.octets.specs.Octets.{be16, be32, topBit, over}
 use Rattle.area.specs.Area.{tacType, uBit}
+use Rattle.area.specs.Tlvs.{Tlv, areaOf}
 use Rattle.message.specs.declared.Message.{Message}
 use Rattle.message.specs.declared.Message.the-variants.{NoMessage, Change}
 
--- S or E as the top bit of an octet: "reserved and unused bits are written 0"
-abbrev pub topBit : Bool → ℕ
-topBit on = pick on 0x80 0
-
--- an element of a TAC: "TA-Id (16 bits), E (the top bit of the third octet), 15 reserved bits"
+-- an element of a TAC: "TA-Id (16 bits), E (the top bit of the third octet), 15 reserved bits"; "reserved and unused bits are written 0"
 abbrev pub element : ℕ → Bool → List ℕ
 element n on = be16 n ++ (topBit on ∷ 0 ∷ [])
 
@@ -23,12 +20,9 @@ element n on = be16 n ++ (topBit on ∷ 0 ∷ [])
 abbrev pub tacValue : Bool → List ℕ → List ℕ
 tacValue s elements = topBit s ∷ elements
 
--- a TLV, "their U and F bits are written as 1 and 0": what stands before its value, and the whole
-abbrev pub tlvHead : ℕ → ℕ → List ℕ
-tlvHead type len = be16 (uBit + type) ++ be16 len
-
-abbrev pub tlv : ℕ → List ℕ → List ℕ
-tlv type value = tlvHead type (length value) ++ value
+-- a TLV of ours: "their U and F bits are written as 1 and 0"
+abbrev pub ours : ℕ → List ℕ → Tlv
+ours type value = record { head = uBit + type; value = value }
 
 -- a message: what stands before its area, with the length of what follows the length, and the whole
 abbrev pub messageHead : ℕ → ℕ → ℕ → List ℕ
@@ -41,12 +35,12 @@ message type number area = messageHead type (length area) number ++ area
 abbrev pub capabilityType : ℕ
 capabilityType = 0x0202
 
--- for one application switched on or off: "one TAC with S = 1 and one element", its value and the area of it alone
+-- for one application switched on or off: "one TAC with S = 1 and one element", its value, the area, the message
 abbrev pub oneElement : ℕ → Bool → List ℕ
 oneElement n on = tacValue true (element n on)
 
 abbrev pub tacOctets : ℕ → Bool → List ℕ
-tacOctets n on = tlv tacType (oneElement n on)
+tacOctets n on = areaOf (ours tacType (oneElement n on) ∷ [])
 
 abbrev pub messageOf : ℕ → ℕ → Bool → List ℕ
 messageOf number n on = message capabilityType number (tacOctets n on)

@@ -1,8 +1,10 @@
 // The messages that events write, from their parts: a head with its number, then TLVs.
 ghost use mathlib.Core.Path.{_≡_};
-ghost use Prim.Native.Nat.{_<_};
+ghost use Prim.Native.Nat.{_+_, _<_};
 ghost use Rattle.octets.specs.Octets.{over};
-ghost use Rattle.message.specs.Message.{topBit, tlvHead, messageHead, oneElement, messageOf, roomWith};
+ghost use Rattle.area.specs.Area.{uBit, typeCount};
+ghost use Rattle.area.specs.Tlvs.{tlvHead};
+ghost use Rattle.message.specs.Message.{messageHead, oneElement, messageOf, roomWith};
 
 // What an event writes: nothing, or a message under its number.
 pub enum Message {
@@ -11,26 +13,22 @@ pub enum Message {
     Change { number: u32, ta_id: u32, on: bool },
 }
 
-// How many octets the message of a change has.
-pub const CHANGE_LENGTH: usize = 17;
-
 // The type of a Capability message.
 const CAPABILITY: u32 = 0x0202;
 
-// How many octets stand before the area of a message, and before the value of a TLV.
+// How many octets stand before the area of a message.
 const MESSAGE_HEAD: usize = 8;
 
-const TLV_HEAD: usize = 4;
+// How many octets the value of a TAC with one element has, and the TLV.
+const ONE_ELEMENT: usize = 1 + area::ELEMENT_LENGTH;
 
-// S or E as the top bit of an octet.
-fn top_bit(on: bool) -> u8
-    ensures { λ r. ⌜ r ≡ topBit on ⌝ }
-{
-    if on { 0x80 } else { 0 }
-}
+const ONE_ELEMENT_TAC: usize = area::HEAD_LENGTH + ONE_ELEMENT;
+
+// How many octets the message of a change has.
+pub const CHANGE_LENGTH: usize = MESSAGE_HEAD + ONE_ELEMENT_TAC;
 
 // What stands before the area of a message of type t, `len` the length of its area.
-fn message_head(t: u32, len: u32, number: u32) -> [u8; 8]
+fn message_head(t: u32, len: usize, number: u32) -> [u8; 8]
     requires { ⌜ len < 65536 ⌝ }
     ensures { λ r. ⌜ r ≡ messageHead t len number ⌝ }
 {
@@ -48,8 +46,8 @@ fn message_head(t: u32, len: u32, number: u32) -> [u8; 8]
 
 // What stands before the value of a TLV: U = 1, F = 0, its type t, and `len` the length of its value.
 fn tlv_head(t: usize, len: usize) -> [u8; 4]
-    requires { ⌜ t < 16384 ⌝ }
-    ensures { λ r. ⌜ r ≡ tlvHead t len ⌝ }
+    requires { ⌜ t < typeCount ⌝ }
+    ensures { λ r. ⌜ r ≡ tlvHead (uBit + t) len ⌝ }
 {
     let head = area::U_BIT + t;
     [
@@ -64,8 +62,8 @@ fn tlv_head(t: usize, len: usize) -> [u8; 4]
 fn one_element(n: u32, on: bool) -> [u8; 5]
     ensures { λ r. ⌜ r ≡ oneElement n on ⌝ }
 {
-    let s = top_bit(true);
-    let e = top_bit(on);
+    let s = octets::top_bit(true);
+    let e = octets::top_bit(on);
     [s, (n / 256 % 256) as u8, (n % 256) as u8, e, 0]
 }
 
@@ -75,12 +73,12 @@ fn write_change(room: &mut [u8], number: u32, n: u32, on: bool)
     if room.len() < CHANGE_LENGTH {
         return;
     }
-    let head = message_head(CAPABILITY, 9, number);
-    let tlv = tlv_head(area::TAC, 5);
+    let head = message_head(CAPABILITY, ONE_ELEMENT_TAC, number);
+    let tlv = tlv_head(area::TAC, ONE_ELEMENT);
     let value = one_element(n, on);
     octets::put(room, &head);
     octets::put_at(room, MESSAGE_HEAD, &tlv);
-    octets::put_at(room, MESSAGE_HEAD + TLV_HEAD, &value);
+    octets::put_at(room, MESSAGE_HEAD + area::HEAD_LENGTH, &value);
 }
 
 // Puts the message over the front of the room where octets were said to be written; else the room stays.

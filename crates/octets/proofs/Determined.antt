@@ -5,6 +5,7 @@ use Rattle.choice.specs.Determined.{Determined}
 use Rattle.choice.proofs.Determined.{by-equation}
 use Rattle.octets.proofs.put.Reads as put
 use Rattle.octets.proofs.put_at.Reads as put-at
+use Rattle.octets.proofs.top_bit.Reads as top-bit
 use Rattle.octets.proofs.read16.Reads as read16
 use Rattle.octets.proofs.read32.Reads as read32
 
@@ -13,6 +14,9 @@ put-determined κs a r r′ s s′ p q = p ∙ sym q
 
 pub put-at-determined : (κs : _) (a r r′ s s′ : _) → put-at.Post κs a r s → put-at.Post κs a r′ s′ → s .0 .now ≡ s′ .0 .now
 put-at-determined κs a r r′ s s′ p q = p ∙ sym q
+
+pub top-bit-determined : Determined (top-bit.Post tt)
+top-bit-determined = by-equation _
 
 pub read16-determined : (κs : _) → Determined (read16.Post κs)
 read16-determined κs = by-equation _

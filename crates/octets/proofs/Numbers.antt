@@ -1,9 +1,12 @@
--- A number of 16 or 32 bits, put into octets and read back, is the number; octets read as a number and put back are the octets. The four octets go
+-- A number of 16 or 32 bits, put into octets and read back, is the number, and so is a top bit; octets read as a number and put back are the octets. The four octets go
 -- by the quotients, one digit at a time. Assumes nothing.
 use Prim.Native.Nat.{ℕ, _+_, _*_, _/_, _%_, _<_}
 use mathlib.Core.Path.{_≡_, refl, sym}
+use mathlib.Core.Bool.{Bool, true, false}
 use native.Mathlib.Omega.{arith}
 use native.Mathlib.Nat.{div-div-eq-div-mul}
+use Rattle.choice.specs.Pick.{pick}
+use Rattle.octets.specs.Octets.{topBit, hasTopBit}
 
 pub back16 : (x : ℕ) → x < 65536 → x % 256 + 256 * (x / 256 % 256) ≡ x
 back16 x h = omega arith
@@ -11,6 +14,12 @@ back16 x h = omega arith
 -- the same with the most significant octet first
 pub forth16 : (x : ℕ) → x < 65536 → x / 256 % 256 * 256 + x % 256 ≡ x
 forth16 x h = omega arith
+
+-- the top bit of an octet that was made for it
+pub top-back : (on : Bool) → hasTopBit (topBit on) ≡ on
+unfolding pick
+top-back true = refl
+top-back false = refl
 
 digits : (x q r t : ℕ) → x < 4294967296 → q ≡ x / 256 → r ≡ q / 256 → t ≡ r / 256
     → x % 256 + 256 * (q % 256) + 65536 * (r % 256) + 16777216 * (t % 256) ≡ x

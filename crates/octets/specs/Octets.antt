@@ -1,5 +1,6 @@
--- Numbers as octets, and octets put over the front of lent ones. Assumes nothing.
+-- Numbers and bits as octets, and octets put over the front of lent ones. Assumes nothing.
 use Prim.Native.Nat.{ℕ, _+_, _*_, _/_, _%_}
+use mathlib.Core.Bool.{Bool}
 use mathlib.Core.List.{List, [], _∷_, _++_}
 use lib.ListN.{length, getD, take, drop}
 use lib.Dec.{leb}
@@ -25,6 +26,13 @@ leAt16 l i = getD l i 0 + 256 * getD l (i + 1) 0
 
 abbrev pub leAt32 : List ℕ → ℕ → ℕ
 leAt32 l i = getD l i 0 + 256 * getD l (i + 1) 0 + 65536 * getD l (i + 2) 0 + 16777216 * getD l (i + 3) 0
+
+-- the top bit of an octet: an octet with it alone or with none, and whether an octet has it
+abbrev pub topBit : Bool → ℕ
+topBit on = pick on 0x80 0
+
+abbrev pub hasTopBit : ℕ → Bool
+hasTopBit x = leb 0x80 x
 
 -- what is written stands in front, and "octets of room beyond those written stay as found"; what has no room is not written
 unfoldable pub over : List ℕ → List ℕ → List ℕ

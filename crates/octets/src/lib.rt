@@ -1,8 +1,8 @@
-// Octets put over the front of lent ones, and the numbers that octets of a record hold.
+// Octets put over the front of lent ones, the top bit of an octet, and the numbers that octets of a record hold.
 ghost use mathlib.Core.Path.{_≡_};
 ghost use Prim.Native.Nat.{_+_, _<_, _≤_};
 ghost use lib.ListN.{length};
-ghost use Rattle.octets.specs.Octets.{leAt16, leAt32, over, overAt};
+ghost use Rattle.octets.specs.Octets.{leAt16, leAt32, topBit, over, overAt};
 
 // Puts `written` over the front of the room; what lies beyond stays, and without enough room all of it does.
 pub fn put(room: &mut [u8], written: &[u8])
@@ -24,6 +24,15 @@ pub fn put_at(room: &mut [u8], at: usize, written: &[u8])
     ensures { λ _. ⌜ now (room .exit) ≡ overAt at (now (written .entry)) (now (room .entry)) ⌝ }
 {
     put(&mut room[at..], written);
+}
+
+pub const TOP_BIT: u8 = 0x80;
+
+// An octet with its top bit alone, or with none.
+pub fn top_bit(on: bool) -> u8
+    ensures { λ r. ⌜ r ≡ topBit on ⌝ }
+{
+    if on { TOP_BIT } else { 0 }
 }
 
 fn wide16(x: u8) -> u16

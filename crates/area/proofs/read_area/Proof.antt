@@ -10,13 +10,14 @@ use denote.Ref.{now}
 use Rattle.choice.proofs.Branch.{branch}
 use Rattle.choice.specs.Pick.{pick}
 use Rattle.area.specs.declared.Reading.{Reading}
-use Rattle.area.specs.Area.{nextAt, readFrom, readArea, nothing}
+use Rattle.area.specs.Found.{nothingFound}
+use Rattle.area.specs.Area.{nextAt, readFrom, readArea}
 use Rattle.area.proofs.Turn.{Reads, done, stop, onward}
 use Rattle.area.proofs.read_area.Statement.{statement}
 use Rattle.area.proofs.read_area.Tie as tie
 
 abbrev Inv-loop : tie.InvT-loop
-Inv-loop area at₀ found₀ at found = Reads area at found (readFrom (length area) area 0 nothing)
+Inv-loop area at₀ found₀ at found = Reads area at found (readFrom (length area) area 0 nothingFound)
 
 abbrev μ-loop : tie.MeasureT-loop
 μ-loop area at₀ found₀ at found = length area - at
@@ -24,7 +25,7 @@ abbrev μ-loop : tie.MeasureT-loop
 -- past the test the TLV was taken, and the loop goes on after it
 next : (c : tie.Else2 Inv-loop μ-loop)
     → let a = now (c .before .before .before .before .before .before .before .before .args .area) in
-    Reads a (nextAt a (c .before .before .before .before .loop .at)) (c .before .before .tlv-at .result) (readFrom (length a) a 0 nothing)
+    Reads a (nextAt a (c .before .before .before .before .loop .at)) (c .before .before .tlv-at .result) (readFrom (length a) a 0 nothingFound)
 next c =
     let t = c .before .before .tlv-at .ensures in
     rw t (onward _ _ _ _ (c .before .before .before .loop-test .taken) (c .before .before .before .before .loop .inv) (rw t at (c .if2 .left)))
@@ -63,11 +64,11 @@ returns-2 c =
 add-at : tie.Need-add-at Inv-loop μ-loop
 add-at c = omega (arith, next c)
 
-add-get16 : tie.Need-add-get16 Inv-loop μ-loop
-add-get16 c = omega (arith, next c)
+add-at16 : tie.Need-add-at16 Inv-loop μ-loop
+add-at16 c = omega (arith, next c)
 
-get16-requires : tie.Need-get16-requires Inv-loop μ-loop
-get16-requires c κs = omega (arith, next c)
+at16-requires : tie.Need-at16-requires Inv-loop μ-loop
+at16-requires c κs = omega (arith, next c)
 
 add-at-2 : tie.Need-add-at-2 Inv-loop μ-loop
 add-at-2 c = omega (arith, next (c .before))
@@ -76,7 +77,7 @@ loop-less : tie.Need-loop-less Inv-loop μ-loop
 loop-less c = omega (arith, next (c .before))
 
 loop-again : tie.Need-loop-again Inv-loop μ-loop
-loop-again c = rw (c .get16 .ensures .0) (next (c .before))
+loop-again c = rw (c .at16 .ensures .0) (next (c .before))
 
 returns-3 : tie.Need-returns-3 Inv-loop μ-loop
 unfolding readArea pick
@@ -97,8 +98,8 @@ read-area-spec =
     tlv-at-requires
     returns-2
     add-at
-    add-get16
-    get16-requires
+    add-at16
+    at16-requires
     add-at-2
     loop-less
     loop-again

@@ -1,44 +1,56 @@
--- `kinds::disables` meets its contract: the four Apps, one after another. Assumes nothing.
-use Rattle.kinds.specs.Kinds.{gather, disables}
-use Rattle.sets.specs.Set.{union}
+-- `kinds::disables` meets its contract. The loop's invariant: the kinds are those of the Apps 1 to i. Assumes nothing.
+use mathlib.Core.Path.{_≡_, refl}
+use Prim.Native.Nat.{_≤_, _-_}
+use native.Mathlib.Omega.{arith}
 use borrow.Author.Needs.{needs}
+use Rattle.kinds.specs.Kinds.{appCount, gather, controlled, disables}
+use Rattle.kinds.proofs.Gathered.{gather-next}
 use Rattle.kinds.proofs.disables.Statement.{statement}
 use Rattle.kinds.proofs.disables.Tie as tie
 
-of-set-requires : tie.Need-of-set-requires
-of-set-requires c κs = search needs
+abbrev Inv-loop : tie.InvT-loop
+Inv-loop apps kinds₀ i₀ kinds i = (i ≤ appCount) × (kinds ≡ gather controlled i apps)
 
-of-set-requires-2 : tie.Need-of-set-requires-2
-of-set-requires-2 c κs = search needs
+abbrev μ-loop : tie.MeasureT-loop
+μ-loop apps kinds₀ i₀ kinds i = appCount - i
 
-union-requires : tie.Need-union-requires
+loop-holds : tie.Need-loop-holds Inv-loop μ-loop
+unfolding gather
+loop-holds c = (omega arith, refl)
+
+disabled-at-requires : tie.Need-disabled-at-requires Inv-loop μ-loop
+disabled-at-requires c κs = omega arith
+
+union-requires : tie.Need-union-requires Inv-loop μ-loop
 union-requires c κs = search needs
 
-of-set-requires-3 : tie.Need-of-set-requires-3
-of-set-requires-3 c κs = search needs
+add-i : tie.Need-add-i Inv-loop μ-loop
+add-i c = omega arith
 
-union-requires-2 : tie.Need-union-requires-2
-union-requires-2 c κs = search needs
+loop-less : tie.Need-loop-less Inv-loop μ-loop
+loop-less c = omega arith
 
-of-set-requires-4 : tie.Need-of-set-requires-4
-of-set-requires-4 c κs = search needs
+loop-again : tie.Need-loop-again Inv-loop μ-loop
+loop-again c =
+    (omega arith, gather-next _ _ _ (c .before .before .before .loop .inv .1) (c .before .disabled-at .ensures) (c .union .ensures))
 
-union-requires-3 : tie.Need-union-requires-3
-union-requires-3 c κs = search needs
-
-returns : tie.Need-returns
-unfolding disables gather union
-returns c = simp (c .union3 .ensures, c .before .of-set4 .ensures, c .before .before .union2 .ensures, c .before .before .before .of-set3 .ensures, c .before .before .before .before .union .ensures, c .before .before .before .before .before .of-set2 .ensures, c .before .before .before .before .before .before .of-set .ensures)
+returns : tie.Need-returns Inv-loop μ-loop
+unfolding disables
+returns c =
+    let l = c .before .loop in
+    let e : l .i ≡ appCount = omega arith in
+    rw e at (l .inv .1)
 
 pub disables-spec : {M : Type 1} → statement M
 disables-spec =
     tie.close
     (tie.spec
-    of-set-requires
-    of-set-requires-2
+    Inv-loop
+    μ-loop
+    loop-holds
+    disabled-at-requires
     union-requires
-    of-set-requires-3
-    union-requires-2
-    of-set-requires-4
-    union-requires-3
+    add-i
+    loop-less
+    loop-again
     returns)

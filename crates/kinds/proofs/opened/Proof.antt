@@ -1,24 +1,28 @@
 -- `kinds::opened` meets its contract. The loop's invariant: the kinds are those of the applications 1 to i. Assumes nothing.
-use mathlib.Core.Path.{_≡_, refl, _∙_, sym}
+use mathlib.Core.Path.{_≡_, refl}
 use Prim.Native.Nat.{_≤_, _-_}
 use native.Mathlib.Omega.{arith}
-use Rattle.kinds.specs.Kinds.{gather, opens, opened}
-use Rattle.kinds.proofs.Gathered.{gather-more}
+use borrow.Author.Needs.{needs}
+use Rattle.kinds.specs.Kinds.{applicationCount, gather, opens, opened}
+use Rattle.kinds.proofs.Gathered.{gather-next}
 use Rattle.kinds.proofs.opened.Statement.{statement}
 use Rattle.kinds.proofs.opened.Tie as tie
 
 abbrev Inv-loop : tie.InvT-loop
-Inv-loop applications protects kinds₀ i₀ kinds i = (i ≤ 13) × (kinds ≡ gather (opens protects) i applications)
+Inv-loop applications protects kinds₀ i₀ kinds i = (i ≤ applicationCount) × (kinds ≡ gather (opens protects) i applications)
 
 abbrev μ-loop : tie.MeasureT-loop
-μ-loop applications protects kinds₀ i₀ kinds i = 13 - i
+μ-loop applications protects kinds₀ i₀ kinds i = applicationCount - i
 
 loop-holds : tie.Need-loop-holds Inv-loop μ-loop
 unfolding gather
 loop-holds c = (omega arith, refl)
 
-with-row-requires : tie.Need-with-row-requires Inv-loop μ-loop
-with-row-requires c κs = omega arith
+opened-at-requires : tie.Need-opened-at-requires Inv-loop μ-loop
+opened-at-requires c κs = omega arith
+
+union-requires : tie.Need-union-requires Inv-loop μ-loop
+union-requires c κs = search needs
 
 add-i : tie.Need-add-i Inv-loop μ-loop
 add-i c = omega arith
@@ -28,16 +32,25 @@ loop-less c = omega arith
 
 loop-again : tie.Need-loop-again Inv-loop μ-loop
 loop-again c =
-    (omega arith, c .with-row .ensures ∙ rw (c .before .before .loop .inv .1) (sym (gather-more _ _ _)))
+    (omega arith, gather-next _ _ _ (c .before .before .before .loop .inv .1) (c .before .opened-at .ensures) (c .union .ensures))
 
 returns : tie.Need-returns Inv-loop μ-loop
 unfolding opened
 returns c =
     let l = c .before .loop in
-    let e : l .i ≡ 13 = omega arith in
+    let e : l .i ≡ applicationCount = omega arith in
     rw e at (l .inv .1)
 
 pub opened-spec : {M : Type 1} → statement M
 opened-spec =
     tie.close
-    (tie.spec Inv-loop μ-loop loop-holds with-row-requires add-i loop-less loop-again returns)
+    (tie.spec
+    Inv-loop
+    μ-loop
+    loop-holds
+    opened-at-requires
+    union-requires
+    add-i
+    loop-less
+    loop-again
+    returns)

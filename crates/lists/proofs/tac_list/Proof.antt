@@ -6,7 +6,7 @@ use mathlib.Core.Path.{_≡_, _∙_}
 use mathlib.Core.Bool.{false}
 use denote.Ref.{now}
 use Prim.Native.Nat.{_≤_, _-_}
-use Rattle.lists.specs.Tac.{count, stood, after, tacList}
+use Rattle.lists.specs.Tac.{elementCount, stood, after, tacList}
 use Rattle.lists.proofs.Turn.{stood-more, repeat, fresh}
 use Rattle.lists.proofs.tac_list.Statement.{statement}
 use Rattle.lists.proofs.tac_list.Tie as tie
@@ -23,8 +23,8 @@ Inv-elements value opening listed n set₀ i₀ set i = (i ≤ n) × (set ≡ af
 abbrev μ-elements : tie.MeasureT-elements
 μ-elements value opening listed n set₀ i₀ set i = n - i
 
-count-of-requires : tie.Need-count-of-requires Inv-loop μ-loop Inv-elements μ-elements
-count-of-requires c κs = search needs
+element-count-requires : tie.Need-element-count-requires Inv-loop μ-loop Inv-elements μ-elements
+element-count-requires c κs = search needs
 
 elements-holds : tie.Need-elements-holds Inv-loop μ-loop Inv-elements μ-elements
 unfolding after
@@ -92,7 +92,7 @@ elements-again-2 c =
 returns : tie.Need-returns Inv-loop μ-loop Inv-elements μ-elements
 unfolding tacList
 returns c =
-    let whole : c .before .elements .i ≡ count (now (c .before .before .before .before .args .value)) = omega arith in
+    let whole : c .before .elements .i ≡ elementCount (now (c .before .before .before .before .args .value)) = omega arith in
     rw whole at (c .before .elements .inv .1)
 
 pub tac-list-spec : {M : Type 1} → statement M
@@ -103,7 +103,7 @@ tac-list-spec =
     μ-loop
     Inv-elements
     μ-elements
-    count-of-requires
+    element-count-requires
     elements-holds
     id-at-requires
     loop-holds

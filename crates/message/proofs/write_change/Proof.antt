@@ -2,12 +2,13 @@
 -- Assumes nothing.
 use mathlib.Core.Path.{_∙_, ap, sym}
 use mathlib.Core.List.{List, _++_}
-use Prim.Native.Nat.{ℕ}
+use Prim.Native.Nat.{ℕ, _+_}
 use native.Mathlib.Omega.{arith}
-use Rattle.area.specs.Area.{tacType}
+use Rattle.area.specs.Area.{uBit, tacType}
+use Rattle.area.specs.Tlvs.{tlvHead}
 use Rattle.octets.specs.Octets.{over}
 use Rattle.octets.proofs.Front.{over-short, then}
-use Rattle.message.specs.Message.{messageHead, tlvHead, oneElement, capabilityType}
+use Rattle.message.specs.Message.{messageHead, oneElement, capabilityType}
 use borrow.Author.Needs.{needs}
 use Rattle.message.proofs.write_change.Statement.{statement}
 use Rattle.message.proofs.write_change.Tie as tie
@@ -57,7 +58,7 @@ returns-2 c =
     let head = tlv .before in
     let a = head .before .before .before .args in
     let h = messageHead capabilityType 9 (a .number) in
-    let t = tlvHead tacType 5 in
+    let t = tlvHead (uBit + tacType) 5 in
     then (h ++ t) (oneElement (a .n) (a .on)) (a .room .now) (omega arith)
     (then h t (a .room .now) (omega arith)
     (first .put .ensures ∙ ap (λ (l : List ℕ). over l (a .room .now)) (head .message-head .ensures))

@@ -1,4 +1,4 @@
--- `TaId::row` meets its contract: the table holds the set of each row. Assumes nothing.
+-- `TaId::opens` meets its contract: the table holds the kinds of each application. Assumes nothing.
 use mathlib.Core.Path.{_∙_, sym}
 use Prim.Native.Nat.{_-_}
 use native.Mathlib.Omega.{arith}
@@ -6,10 +6,10 @@ use borrow.Author.Tests.{eq-eqb, ne-eqb}
 use Rattle.choice.proofs.Branch.{taken, left}
 use Rattle.sets.proofs.Switches.{numbered-is}
 use Rattle.kinds.specs.Kinds.{opens}
-use Rattle.kinds.proofs.Table.{row-at}
+use Rattle.kinds.proofs.Table.{opens-at}
 use borrow.Author.Needs.{needs}
-use Rattle.kinds.proofs.TaId.row.Statement.{statement}
-use Rattle.kinds.proofs.TaId.row.Tie as tie
+use Rattle.kinds.proofs.TaId.opens.Statement.{statement}
+use Rattle.kinds.proofs.TaId.opens.Tie as tie
 
 is-known-requires : tie.Need-is-known-requires
 is-known-requires c κs = search needs
@@ -32,14 +32,14 @@ array-read-result c = omega (arith, numbered-is _ _ (sym (c .before .before .is-
 
 returns-2 : tie.Need-returns-2
 unfolding opens
-returns-2 c = row-at (c .before .before .before .args .self .0 - 1) ∙ sym (taken _ _ (sym (c .before .before .is-known .ensures) ∙ c .before .if1 .taken) ∙ left _ _ (ne-eqb _ _ (c .if2 .left)))
+returns-2 c = opens-at (c .before .before .before .args .self .0 - 1) ∙ sym (taken _ _ (sym (c .before .before .is-known .ensures) ∙ c .before .if1 .taken) ∙ left _ _ (ne-eqb _ _ (c .if2 .left)))
 
 returns-3 : tie.Need-returns-3
 unfolding opens
 returns-3 c = sym (left _ _ (sym (c .before .is-known .ensures) ∙ c .if1 .left))
 
-pub row-spec : {M : Type 1} → statement M
-row-spec =
+pub opens-spec : {M : Type 1} → statement M
+opens-spec =
     tie.close
     (tie.spec
     is-known-requires

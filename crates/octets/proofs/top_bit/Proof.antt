@@ -1,7 +1,7 @@
--- `message::top_bit` meets its contract: each return by the test that led there. Assumes nothing.
+-- `octets::top_bit` meets its contract: each return by the test that led there. Assumes nothing.
 use Rattle.choice.proofs.Branch.{branch}
-use Rattle.message.proofs.top_bit.Statement.{statement}
-use Rattle.message.proofs.top_bit.Tie as tie
+use Rattle.octets.proofs.top_bit.Statement.{statement}
+use Rattle.octets.proofs.top_bit.Tie as tie
 
 returns : tie.Need-returns
 returns c = search (branch, c .if1 .taken)

@@ -1,11 +1,11 @@
--- `area::get16` meets its contract: an octet is below 256. Assumes nothing.
+-- `area::at16` meets its contract: an octet is below 256. Assumes nothing.
 use mathlib.Core.Path.{refl}
 use Prim.Native.Nat.{_+_}
 use native.Mathlib.Omega.{arith}
 use Rattle.area.specs.Area.{at16}
 use borrow.Author.Needs.{needs}
-use Rattle.area.proofs.get16.Statement.{statement}
-use Rattle.area.proofs.get16.Tie as tie
+use Rattle.area.proofs.at16.Statement.{statement}
+use Rattle.area.proofs.at16.Tie as tie
 
 shared-slice-read-high : tie.Need-shared-slice-read-high
 shared-slice-read-high c = search needs
@@ -32,8 +32,8 @@ returns : tie.Need-returns
 unfolding at16
 returns c = (refl, omega (arith, c .before .shared-slice-known .given (c .before .before .args .at), c .shared-slice-known2 .given (c .before .before .args .at + 1)))
 
-pub get16-spec : {M : Type 1} → statement M
-get16-spec =
+pub at16-spec : {M : Type 1} → statement M
+at16-spec =
     tie.close
     (tie.spec
     shared-slice-read-high

@@ -1,0 +1,27 @@
+-- `area::take_tlv` meets its contract: each return by the tests that led there. Assumes nothing.
+use Rattle.choice.proofs.Branch.{branch}
+use Rattle.area.specs.Area.{takeTlv}
+use borrow.Author.Needs.{needs}
+use Rattle.area.proofs.take_tlv.Statement.{statement}
+use Rattle.area.proofs.take_tlv.Tie as tie
+
+refuse-requires : tie.Need-refuse-requires
+refuse-requires c κs = search needs
+
+returns : tie.Need-returns
+unfolding takeTlv
+returns c = search (branch, c .before .if1 .taken)
+
+refuse-requires-2 : tie.Need-refuse-requires-2
+refuse-requires-2 c κs = search needs
+
+returns-2 : tie.Need-returns-2
+unfolding takeTlv
+returns-2 c = search (branch, c .before .before .if1 .left, c .before .if2 .taken)
+
+returns-3 : tie.Need-returns-3
+unfolding takeTlv
+returns-3 c = search (branch, c .before .if1 .left, c .if2 .left)
+
+pub take-tlv-spec : {M : Type 1} → statement M
+take-tlv-spec = tie.close (tie.spec refuse-requires returns refuse-requires-2 returns-2 returns-3)

@@ -1,0 +1,47 @@
+-- Areas made of TLVs, as they are written, and what reading them comes to: an area made of TLVs is read TLV by TLV. Assumes nothing.
+use Prim.Native.Nat.{ℕ, _+_, _<_, _≤_}
+use mathlib.Core.Path.{_≡_}
+use mathlib.Core.List.{List, [], _∷_, _++_}
+use lib.ListN.{length}
+use lib.Dec.{eqb}
+use Rattle.choice.specs.Pick.{pick}
+use Rattle.refusals.specs.Refusals.{notRefused}
+use Rattle.octets.specs.Octets.{be16}
+use Rattle.area.specs.declared.Reading.{Reading}
+use Rattle.area.specs.Found.{nothingFound}
+use Rattle.area.specs.Area.{areaMost, headLength, byType, readArea}
+
+-- a TLV: its first 16 bits, and its value
+pub record Tlv : Type 0 where
+  pub head : ℕ
+  pub value : List ℕ
+
+-- what stands before its value, and the whole
+abbrev pub tlvHead : ℕ → ℕ → List ℕ
+tlvHead head len = be16 head ++ be16 len
+
+abbrev pub tlvOctets : Tlv → List ℕ
+tlvOctets t = tlvHead (t .head) (length (t .value)) ++ t .value
+
+-- "TLVs one after another"
+abbrev pub areaOf : List Tlv → List ℕ
+areaOf [] = []
+areaOf (t ∷ ts) = tlvOctets t ++ areaOf ts
+
+-- the reading of one at `at`, after r was found; and of these from there on: the first refusal is the answer
+abbrev pub readTlv : ℕ → Reading → Tlv → Reading
+readTlv at r t = byType (t .head) (record { start = at + headLength; len = length (t .value) }) r
+
+abbrev pub readTlvs : ℕ → Reading → List Tlv → Reading
+readTlvs at r [] = r
+readTlvs at r (t ∷ ts) =
+    let found : Reading = readTlv at r t in
+    pick (eqb (found .refusal) notRefused) (readTlvs (at + headLength + length (t .value)) found ts) found
+
+-- heads and lengths are of 16 bits
+abbrev pub Wide : List Tlv → Type 0
+Wide [] = Unit {0}
+Wide (t ∷ ts) = (t .head < 65536) × (length (t .value) < 65536) × Wide ts
+
+abbrev pub ReadByTlvs : Type 0
+ReadByTlvs = (ts : List Tlv) → Wide ts → length (areaOf ts) ≤ areaMost → readArea (areaOf ts) ≡ readTlvs 0 nothingFound ts
