@@ -10,26 +10,29 @@ use Rattle.choice.proofs.Tests.{and-first, and-second, and-both}
 use Rattle.sets.specs.Set.{has, Within}
 use Rattle.sets.proofs.Members.{has-above}
 use Rattle.sets.proofs.Switches.{numbered-is, is-numbered}
-use Rattle.kinds.specs.Kinds.{knownApplication, isIn, opens}
+use Rattle.kinds.specs.Kinds.{applicationCount, knownApplication, isIn, opens}
 use Rattle.kinds.proofs.Table.{opens-lt}
 use Rattle.session.specs.declared.Session.{Session}
-use Rattle.session.specs.Session.{isOpen, inForce, Sound, Negotiates, besides}
+use Rattle.session.specs.Session.{isOpen, inForce, Sound, Negotiates}
+use Rattle.session.specs.With.{withOtherEnabled}
+use Rattle.session.specs.Events.{Event, Initialization, step, run}
 use Rattle.session.proofs.SoundMeans.{sound-means}
 use Rattle.session.proofs.PermittedMeans.{kind-of, permitted-means, means-permitted}
-use Rattle.promises.specs.Run.{Event, Initialization, step, run, StaysOpen}
+use Rattle.session.proofs.Alike.{Alike}
+use Rattle.session.proofs.View.{view}
+use Rattle.session.proofs.Steps.{step-sound}
+use Rattle.promises.specs.Run.{StaysOpen}
 use Rattle.promises.specs.Words.{Enables, Lists, Maps, Permits}
 use Rattle.promises.specs.Condition3.{Further, NeverLess, Condition3}
-use Rattle.promises.proofs.Runs.{step-sound}
-use Rattle.promises.proofs.Alike.{Alike, step-follows}
 
 -- ---- an application in a set, by its number and by its place
-in-set : (a n : ℕ) → 1 ≤ n → n ≤ 13 → has a (n - 1) ≡ true → isIn a n ≡ true
+in-set : (a n : ℕ) → 1 ≤ n → n ≤ applicationCount → has a (n - 1) ≡ true → isIn a n ≡ true
 unfolding isIn
-in-set a n l m h = and-both _ _ (is-numbered 13 n l m) h
+in-set a n l m h = and-both _ _ (is-numbered applicationCount n l m) h
 
-at-place : (a n : ℕ) → isIn a n ≡ true → ((1 ≤ n) × (n ≤ 13)) × (has a (n - 1) ≡ true)
+at-place : (a n : ℕ) → isIn a n ≡ true → ((1 ≤ n) × (n ≤ applicationCount)) × (has a (n - 1) ≡ true)
 unfolding isIn
-at-place a n h = (numbered-is 13 n (and-first (knownApplication n) _ h), and-second (knownApplication n) _ h)
+at-place a n h = (numbered-is applicationCount n (and-first (knownApplication n) _ h), and-second (knownApplication n) _ h)
 
 negotiator : (t : Session) (n k : ℕ) → Enables t n → Lists t n → Maps t n k → Negotiates t k
 negotiator t n k e l m =
@@ -37,9 +40,9 @@ negotiator t n k e l m =
     record { number = n; least = p .0 .0; most = p .0 .1; is-enabled = p .1; is-listed = at-place (t .listed) n l .1; maps = m }
 
 -- ---- two alike sessions, the first Open
-module _ (s : Session) (e m : ℕ) (h : Within (s .enabled) e) (r : Sound s) (r′ : Sound (besides s e m)) (is-open : isOpen s ≡ true) where
+module _ (s : Session) (e m : ℕ) (h : Within (s .enabled) e) (r : Sound s) (r′ : Sound (withOtherEnabled s e m)) (is-open : isOpen s ≡ true) where
   t : Session
-  t = besides s e m
+  t = withOtherEnabled s e m
 
   more : (k : ℕ) → Negotiates s k → Negotiates t k
   unfolding t
@@ -50,7 +53,7 @@ module _ (s : Session) (e m : ℕ) (h : Within (s .enabled) e) (r : Sound s) (r�
   unfolding t
   permits-more k p =
       let w = permitted-means s k r p in
-      means-permitted (besides s e m) k
+      means-permitted (withOtherEnabled s e m) k
       (record { is-open = is-open; kind = w .kind; not-disabled = w .not-disabled; negotiates = λ f. more k (w .negotiates f) })
 
   -- a kind of the second alone: in force, else the first would permit it too
@@ -61,7 +64,7 @@ module _ (s : Session) (e m : ℕ) (h : Within (s .enabled) e) (r : Sound s) (r�
       go : (x : Bool) → inForce s ≡ x → inForce s ≡ true
       go true f = f
       go false f =
-          let w = permitted-means (besides s e m) k r′ p in
+          let w = permitted-means (withOtherEnabled s e m) k r′ p in
           absurd
           (q (means-permitted s k
           (record { is-open = is-open; kind = w .kind; not-disabled = w .not-disabled; negotiates = λ g. absurd (true≢false (sym g ∙ f)) })))
@@ -69,7 +72,7 @@ module _ (s : Session) (e m : ℕ) (h : Within (s .enabled) e) (r : Sound s) (r�
   to-further : (k : ℕ) → Permits t k × (Permits s k → ⊥) → Further s t k
   unfolding t
   to-further k p =
-      let w = permitted-means (besides s e m) k r′ (p .0) in
+      let w = permitted-means (withOtherEnabled s e m) k r′ (p .0) in
       let f = forced k (p .0) (p .1) in
       let o = w .negotiates f in
       let none : (n : ℕ) → Enables s n → Lists s n → Maps s n k → ⊥ =
@@ -95,12 +98,12 @@ module _ (s : Session) (e m : ℕ) (h : Within (s .enabled) e) (r : Sound s) (r�
   unfolding t
   from-further k f =
       let o = f .only-second in (
-        means-permitted (besides s e m) k
+        means-permitted (withOtherEnabled s e m) k
             (record {
               is-open = is-open;
               kind = kind-of (opens (s .protects) (o .application)) k (opens-lt (s .protects) (o .application) (r .protects)) (o .maps);
               not-disabled = f .not-disabled;
-              negotiates = λ _. negotiator (besides s e m) (o .application) k (o .enabled) (o .listed) (o .maps);
+              negotiates = λ _. negotiator (withOtherEnabled s e m) (o .application) k (o .enabled) (o .listed) (o .maps);
             }),
         λ p.
             let n = permitted-means s k r p .negotiates (f .in-force) in
@@ -121,31 +124,31 @@ alike-less s u a r r′ o =
 alike-step : (s t : Session) (ev : Event) → Alike s t → Sound s → Sound t → isOpen (step s ev .session) ≡ true → Alike (step s ev .session) (step t ev .session)
 alike-step s t ev a r r′ o =
     subst (λ (u : Session). Alike (step s ev .session) (step u ev .session)) (sym (a .same-else))
-    (step-follows s (t .enabled) (t .next) (a .more) r (subst Sound (a .same-else) r′) ev o)
+    (view s (t .enabled) (t .next) (a .more) r (subst Sound (a .same-else) r′) ev .follows o)
 
 over : (s t : Session) (ev : Event) (es : List Event) → Alike s t → Sound s → Sound t → StaysOpen s (ev ∷ es) → NeverLess (run s (ev ∷ es)) (run t (ev ∷ es))
 over s t ev [] a r r′ o =
-    alike-less (step s ev .session) (step t ev .session) (alike-step s t ev a r r′ (o .0)) (step-sound s ev r) (step-sound t ev r′) (o .0)
+    alike-less (step s ev .session) (step t ev .session) (alike-step s t ev a r r′ (o .0)) (step-sound s r ev) (step-sound t r′ ev) (o .0)
 over s t ev (next ∷ es) a r r′ o =
-    over (step s ev .session) (step t ev .session) next es (alike-step s t ev a r r′ (o .0)) (step-sound s ev r) (step-sound t ev r′) (o .1)
+    over (step s ev .session) (step t ev .session) next es (alike-step s t ev a r r′ (o .0)) (step-sound s r ev) (step-sound t r′ ev) (o .1)
 
 -- the same said of applications and of members
-pub members : (a b : ℕ) → a < 2 ^ 13 → ((n : ℕ) → isIn a n ≡ true → isIn b n ≡ true) → Within a b
-members a b small f k h = go (decLt k 13)
+pub members : (a b : ℕ) → a < 2 ^ applicationCount → ((n : ℕ) → isIn a n ≡ true → isIn b n ≡ true) → Within a b
+members a b small f k h = go (decLt k applicationCount)
   where
-    go : Dec (k < 13) → has b k ≡ true
+    go : Dec (k < applicationCount) → has b k ≡ true
     go (yes l) =
         let place : k + 1 - 1 ≡ k = omega arith in
         rw place at (at-place b (k + 1) (f (k + 1) (in-set a (k + 1) (omega arith) (omega arith) (rw place h))) .1)
-    go (no l) = absurd (true≢false (sym h ∙ has-above 13 a k small (omega arith)))
+    go (no l) = absurd (true≢false (sym h ∙ has-above applicationCount a k small (omega arith)))
 
 pub condition-3 : Condition3
-condition-3 s t area es pair =
+condition-3 s t area belowLimit es pair =
     let r = sound-means s (pair .first-sound) in
     let next : t .next ≡ s .next = ap (λ (u : Session). u .next) (pair .alike) in
-    over s t (Initialization area) es
+    over s t (Initialization area belowLimit) es
     (record {
-      same-else = pair .alike ∙ ap (besides s (t .enabled)) (sym next);
+      same-else = pair .alike ∙ ap (withOtherEnabled s (t .enabled)) (sym next);
       more = members (s .enabled) (t .enabled) (r .enabled) (pair .more);
     })
     r (sound-means t (pair .second-sound))

@@ -1,6 +1,5 @@
 pub mod Examples
 pub mod Runs
-pub mod Alike
 pub mod Condition3
 pub mod Written
 pub mod Records

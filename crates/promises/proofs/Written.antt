@@ -1,66 +1,76 @@
 -- What we write is read as we meant it. A message was written only for a known application and with room for it, so its last 9 octets are the TAC of one
 -- element; and reading that, the other end switches that application in its list and touches nothing else. Assumes nothing.
 use Prim.Native.Nat.{ℕ, _-_, _<_, _≤_}
-use mathlib.Core.Path.{_≡_, refl, ap, ap₂, _∙_}
+use mathlib.Core.Path.{_≡_, refl, sym, ap, ap₂, _∙_}
 use mathlib.Core.Bool.{Bool, true, false, _&&_}
 use mathlib.Core.List.{List}
 use native.Mathlib.Omega.{arith}
 use lib.Dec.{ltb, lit<}
 use lib.ListN.{length, take, drop}
 use lib.Seq.{take-append-seam}
-use borrow.Author.Tests.{leb-true, le-leb}
-use Rattle.choice.proofs.Branch.{by-test, taken}
+use borrow.Author.Tests.{le-leb}
+use Rattle.choice.proofs.Branch.{by-test, taken, left}
 use Rattle.choice.proofs.Tests.{and-both}
 use Rattle.sets.specs.Set.{has, with, switched}
 use Rattle.sets.proofs.Members.{with-has}
 use Rattle.sets.proofs.Switches.{numbered-is, switched-same, switched-other}
-use Rattle.kinds.specs.Kinds.{knownApplication, isIn}
+use Rattle.kinds.specs.Kinds.{applicationCount, knownApplication, isIn}
 use Rattle.octets.specs.Octets.{over}
 use Rattle.area.specs.declared.Reading.{Reading}
 use Rattle.area.specs.Area.{part}
 use Rattle.lists.specs.Tac.{tacList}
 use Rattle.lists.specs.Sac.{sacAfter, sacList}
-use Rattle.message.specs.Message.{tacOctets, messageOf}
-use Rattle.message.proofs.ReadBack.{oneTac, oneElement, last-nine, read-back, s-back, list-back}
+use Rattle.message.specs.Message.{oneElement, tacOctets, messageOf, changeLength, roomWith}
+use Rattle.message.proofs.ReadBack.{oneTac, last-nine, read-back, s-back, list-back}
 use Rattle.session.specs.declared.Session.{Session}
 use Rattle.session.specs.declared.After.{After}
-use Rattle.session.specs.Session.{usesTac}
-use Rattle.session.specs.Events as E
-use Rattle.session.specs.Events.{answered, settled, takesTac, flagsAfter, listAfter, capable, sent, writing, roomAfter}
+use Rattle.session.specs.Session.{usesTac, inForceBit, flagCount, sound}
+use Rattle.session.specs.With.{withFlags, withListed, withListing}
+use Rattle.session.specs.Decisions.{answered, Decision, Refused, Unchanged, Done, AsMismatch, Negotiate, Admit, Send, settled}
+use Rattle.session.specs.Events.{unlessRefused, takesTac, flagsAfter, listAfter, afterCapability, onCapability, onLocalChange, Event, Capability, LocalChange, step, run, roomAfter}
 use Rattle.session.proofs.SoundMeans.{sound-means}
-use Rattle.promises.specs.Run.{Capability, step, run}
-use Rattle.promises.specs.Written.{told, OtherEnd, ReadAsMeant}
+use Rattle.session.proofs.View.{Facts, facts-of}
+use Rattle.promises.specs.Written.{OtherEnd, ReadAsMeant}
 
--- ---- where 17 octets were written
+-- ---- where a message was written: the event was sent, which says that the application is known and that there was room
 record Wrote (n room : ℕ) : Type 0 where
   pub known : knownApplication n ≡ true
-  pub enough : 17 ≤ room
+  pub enough : changeLength ≤ room
 
-wrote : (s : Session) (n : ℕ) (on : Bool) (room : ℕ) → E.localChange s n on room .answer .written ≡ 17 → Wrote n room
-unfolding E.localChange writing sent answered
-wrote s n on room =
-    by-test P
-    (λ _. by-test P
-    (λ k. by-test P (λ _ e. absurd (omega arith))
-    (λ _. by-test P
-    (λ _. by-test P
-    (λ _. by-test P (λ q. by-test P (λ _ e. absurd (omega arith)) (λ _ e. record { known = k; enough = leb-true 17 room q })) (λ _ e. absurd (omega arith)))
-    (λ _ e. absurd (omega arith)))
-    (λ _ e. absurd (omega arith))))
-    (λ _ e. absurd (omega arith)))
-    (λ _ e. absurd (omega arith))
-  where
-    P : After → Type 0
-    P after = after .answer .written ≡ 17 → Wrote n room
+module _ (s : Session) (n : ℕ) (on : Bool) (room : ℕ) where
+  abbrev change : Event
+  change = LocalChange n on room
+
+  abbrev Tells : After → Type 0
+  Tells after = after .answer .written ≡ changeLength → Wrote n room
+
+  tells : (c : Decision) → Facts s change c → Tells (settled s c)
+  unfolding settled answered
+  tells (Refused k) f = λ e. absurd (omega arith)
+  tells Unchanged f = λ e. absurd (omega arith)
+  tells (Done t) f = λ e. absurd (omega arith)
+  tells (AsMismatch t) f = λ e. absurd (omega arith)
+  tells (Negotiate t) f = by-test Tells (λ _ e. absurd (omega arith)) (λ _ e. absurd (omega arith))
+  tells (Admit t belowLimit) f = absurd (f .1)
+  tells (Send t written) f =
+      by-test Tells (λ _ e. absurd (omega arith)) (λ _ _. record { known = f .0 .enabling .known; enough = f .1 .enough })
+
+  wrote : step s change .answer .written ≡ changeLength → Wrote n room
+  unfolding onLocalChange settled
+  wrote = go (sound s) refl
+    where
+      go : (x : Bool) → sound s ≡ x → step s change .answer .written ≡ changeLength → Wrote n room
+      go true h = tells (onLocalChange s n on room) (facts-of s (sound-means s h) change)
+      go false h e = absurd (omega (arith, sym (ap (λ (c : Decision). settled s c .answer .written) (left _ _ h)) ∙ e))
 
 -- its last 9 octets are the TAC
-area-of : (s : Session) (n : ℕ) (on : Bool) (room : List ℕ) → E.localChange s n on (length room) .answer .written ≡ 17
-    → drop 8 (take 17 (roomAfter s n on room)) ≡ tacOctets n on
-unfolding roomAfter over
+area-of : (s : Session) (n : ℕ) (on : Bool) (room : List ℕ) → step s (LocalChange n on (length room)) .answer .written ≡ changeLength
+    → drop 8 (take changeLength (roomAfter s (LocalChange n on (length room)) room)) ≡ tacOctets n on
+unfolding roomAfter roomWith over
 area-of s n on room w =
-    ap (λ (l : List ℕ). drop 8 (take 17 l))
-    (taken _ _ (ap (λ (x : ℕ). ltb 0 x) w) ∙ taken _ _ (le-leb 17 (length room) (wrote s n on (length room) w .enough)))
-    ∙ ap (λ (l : List ℕ). drop 8 l) (take-append-seam (messageOf (s .next) n on) (drop 17 room))
+    ap (λ (l : List ℕ). drop 8 (take changeLength l))
+    (taken _ _ (ap (λ (x : ℕ). ltb 0 x) w) ∙ taken _ _ (le-leb changeLength (length room) (wrote s n on (length room) w .enough)))
+    ∙ ap (λ (l : List ℕ). drop 8 l) (take-append-seam (messageOf (s .next) n on) (drop changeLength room))
     ∙ last-nine (s .next) n on
 
 -- ---- at the other end
@@ -72,49 +82,48 @@ module _ (t : Session) (o : OtherEnd t) (n : ℕ) (on : Bool) (known : knownAppl
   flags-stay : flagsAfter t (oneElement n on) ≡ t .flags
   unfolding flagsAfter with
   flags-stay =
-      taken _ _ (s-back n on) ∙ with-has 7 (t .flags) 4 (sound-means t (o .is-sound) .flags) (lit< tt) (o .in-force)
+      taken _ _ (s-back n on) ∙ with-has flagCount (t .flags) inForceBit (sound-means t (o .is-sound) .flags) (lit< tt) (o .in-force)
 
-  list-changes : listAfter t (oneElement n on) ≡ switched 13 (t .listed) n on
+  list-changes : listAfter t (oneElement n on) ≡ switched applicationCount (t .listed) n on
   unfolding listAfter
   list-changes =
-      let k = numbered-is 13 n known in
+      let k = numbered-is applicationCount n known in
       taken _ _ (s-back n on)
       ∙ ap (λ (l : ℕ). tacList (oneElement n on) false l) (taken _ _ (o .in-force))
       ∙ list-back n on (t .listed) (omega arith)
 
-  capable-told : capable t (tacOctets n on) oneTac ≡ told t n on
-  unfolding capable part sacList sacAfter
-  capable-told =
-      ap₂ (λ (f l : ℕ). record { state = t .state; flags = f; disabled = t .disabled; enabled = t .enabled; listed = l; protects = t .protects; hello = t .hello; next = t .next })
-      (taken _ _ takes ∙ flags-stay) (taken _ _ takes ∙ list-changes)
+  after-is : afterCapability t (tacOctets n on) oneTac ≡ withListing t n on
+  unfolding afterCapability part sacList sacAfter
+  after-is = ap₂ (λ (f l : ℕ). withListed (withFlags t f) l) (taken _ _ takes ∙ flags-stay) (taken _ _ takes ∙ list-changes)
 
-  event-told : step t (Capability (tacOctets n on)) ≡ settled t (told t n on)
-  unfolding E.capability
-  event-told =
-      taken _ _ (o .is-sound) ∙ taken _ _ (o .is-open)
-      ∙ ap (λ (r : Reading). E.heard t r (settled t (capable t (tacOctets n on) r))) (read-back 0 n on)
+  event-is : step t (Capability (tacOctets n on)) ≡ settled t (Negotiate (withListing t n on))
+  unfolding onCapability
+  event-is =
+      ap (settled t)
+      (taken _ _ (o .is-sound) ∙ taken _ _ (o .is-open)
+      ∙ ap (λ (r : Reading). unlessRefused r (Negotiate (afterCapability t (tacOctets n on) r))) (read-back 0 n on)
       ∙ taken _ _ refl
-      ∙ ap (settled t) capable-told
+      ∙ ap Negotiate after-is)
 
-  that : isIn (switched 13 (t .listed) n on) n ≡ on
+  that : isIn (switched applicationCount (t .listed) n on) n ≡ on
   unfolding isIn
   that =
-      let k = numbered-is 13 n known in
-      ap (λ (b : Bool). b && has (switched 13 (t .listed) n on) (n - 1)) known ∙ switched-same 13 (t .listed) n on (k .0) (k .1)
+      let k = numbered-is applicationCount n known in
+      ap (λ (b : Bool). b && has (switched applicationCount (t .listed) n on) (n - 1)) known ∙ switched-same applicationCount (t .listed) n on (k .0) (k .1)
 
-  no-other : (m : ℕ) → (m ≡ n → ⊥) → isIn (switched 13 (t .listed) n on) m ≡ isIn (t .listed) m
+  no-other : (m : ℕ) → (m ≡ n → ⊥) → isIn (switched applicationCount (t .listed) n on) m ≡ isIn (t .listed) m
   unfolding isIn
   no-other m ne = go (knownApplication m) refl
     where
       go : (x : Bool) → knownApplication m ≡ x
-          → (knownApplication m && has (switched 13 (t .listed) n on) (m - 1)) ≡ (knownApplication m && has (t .listed) (m - 1))
+          → (knownApplication m && has (switched applicationCount (t .listed) n on) (m - 1)) ≡ (knownApplication m && has (t .listed) (m - 1))
       go true e =
-          let k = numbered-is 13 m e in
-          ap (λ (b : Bool). knownApplication m && b) (switched-other 13 (t .listed) n on (m - 1) (λ q. ne (omega arith)))
+          let k = numbered-is applicationCount m e in
+          ap (λ (b : Bool). knownApplication m && b) (switched-other applicationCount (t .listed) n on (m - 1) (λ q. ne (omega arith)))
       go false e = rw e refl
 
 pub read-as-meant : ReadAsMeant
 read-as-meant s es n on room t w o =
     let known = wrote (run s es) n on (length room) w .known in
     rw (area-of (run s es) n on room w)
-    (record { event = event-told t o n on known; that = that t o n on known; no-other = no-other t o n on known })
+    (record { event = event-is t o n on known; that = that t o n on known; no-other = no-other t o n on known })

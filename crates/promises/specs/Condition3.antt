@@ -5,8 +5,10 @@ use mathlib.Core.Bool.{true}
 use mathlib.Core.Logic.{_↔_}
 use mathlib.Core.List.{List, _∷_}
 use Rattle.session.specs.declared.Session.{Session}
-use Rattle.session.specs.Session.{isReady, isOpen, inForce, sound, besides}
-use Rattle.promises.specs.Run.{Event, Initialization, run, StaysOpen}
+use Rattle.session.specs.Session.{isReady, isOpen, inForce, sound}
+use Rattle.session.specs.With.{withOtherEnabled}
+use Rattle.session.specs.Events.{Event, Initialization, run}
+use Rattle.promises.specs.Run.{StaysOpen}
 use Rattle.promises.specs.Words.{Enables, Lists, Maps, Disables, Permits}
 
 -- "two sound Ready sessions alike in all but this: the second enables every application the first enables, perhaps more"
@@ -14,7 +16,7 @@ pub record ReadyPair (s t : Session) : Type 0 where
   pub first-sound : sound s ≡ true
   pub second-sound : sound t ≡ true
   pub first-ready : isReady s ≡ true
-  pub alike : t ≡ besides s (t .enabled) (s .next)
+  pub alike : t ≡ withOtherEnabled s (t .enabled) (s .next)
   pub more : (n : ℕ) → Enables s n → Enables t n
 
 -- one listed by the peer and enabled only in the second maps to the kind
@@ -40,8 +42,8 @@ pub record NeverLess (s t : Session) : Type 0 where
   pub further : (k : ℕ) → (Permits t k × (Permits s k → ⊥)) ↔ Further s t k
 
 -- "One Initialization opens the first; give it to both, then the same events with the same room to write. After each event, until the first leaves
--- Open": the enabled sets are those of that moment
+-- Open": the enabled sets are those of that moment. Of limits the same applications are below theirs in both
 abbrev pub Condition3 : Type 0
 Condition3 =
-    (s t : Session) (area : List ℕ) (es : List Event) → ReadyPair s t → StaysOpen s (Initialization area ∷ es)
-    → NeverLess (run s (Initialization area ∷ es)) (run t (Initialization area ∷ es))
+    (s t : Session) (area : List ℕ) (belowLimit : ℕ) (es : List Event) → ReadyPair s t → StaysOpen s (Initialization area belowLimit ∷ es)
+    → NeverLess (run s (Initialization area belowLimit ∷ es)) (run t (Initialization area belowLimit ∷ es))

@@ -1,7 +1,7 @@
 -- All that is promised of sessions and of rows of them beyond what each function ensures. Assumes nothing.
 use Rattle.record.specs.Record.{ReadBack, StoredBack}
-use Rattle.record.specs.Loaded.{LoadedBack, KeptAsLoaded}
-use Rattle.promises.specs.Run.{SoundOverRuns, RefusedIsNothing, RoomStays, RefusedCanGo}
+use Rattle.record.specs.Loaded.{LoadedBack, StaysAsLoaded}
+use Rattle.promises.specs.Run.{SoundOverRuns, RefusedIsNothing, RoomStays, RefusedCanGo, WithoutLimits}
 use Rattle.promises.specs.Condition3.{Condition3}
 use Rattle.promises.specs.Written.{ReadAsMeant}
 use Rattle.promises.specs.Records.{RecordsFollow}
@@ -15,6 +15,7 @@ pub record Promises : Type 0 where
   pub refused-is-nothing : RefusedIsNothing
   pub room-stays : RoomStays
   pub refused-can-go : RefusedCanGo
+  pub without-limits : WithoutLimits
   pub read-back : ReadBack
   pub stored-back : StoredBack
   pub records-follow : RecordsFollow
@@ -33,6 +34,6 @@ pub record Promises : Type 0 where
   pub why-it-stops : WhyItStops
   pub why-at-that-moment : WhyAtThatMoment
   pub loaded-back : LoadedBack
-  pub kept-as-loaded : KeptAsLoaded
+  pub stays-as-loaded : StaysAsLoaded
   pub row-examples : RowExamples
   pub why-the-one-session : WhyTheOneSession

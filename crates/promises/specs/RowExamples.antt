@@ -5,8 +5,10 @@ use mathlib.Core.Bool.{true, false}
 use mathlib.Core.List.{List, [], _∷_}
 use Rattle.session.specs.declared.Session.{Session}
 use Rattle.session.specs.Session.{isReady, isOpen, permitted}
-use Rattle.session.specs.Creation.{roleFlags, fresh}
+use Rattle.session.specs.With.{fresh}
+use Rattle.session.specs.Creation.{roleFlags}
 use Rattle.row.specs.declared.Limits.{Limits}
+use Rattle.row.specs.Events.{initializationNumber}
 use Rattle.row.specs.Row.{sessionAt, count}
 use Rattle.promises.specs.Examples.{tac4, tac4and7}
 use Rattle.promises.specs.Rows.{RowEvent, rowStep, rowRun}
@@ -21,7 +23,7 @@ limit4 limit = record { each = 64 ∷ 64 ∷ 64 ∷ limit ∷ 64 ∷ 64 ∷ 64 �
 
 -- an Initialization for one session of the row
 abbrev pub opensAt : ℕ → ℕ → List ℕ → RowEvent
-opensAt at limit area = record { at = at; event = record { which = 0; «ta_id» = 0; on = 0; number = 0 }; limits = limit4 limit; area = area; room = [] }
+opensAt at limit area = record { at = at; event = record { which = initializationNumber; «ta_id» = 0; on = 0; number = 0 }; limits = limit4 limit; area = area; room = [] }
 
 abbrev pub tac7 : List ℕ
 tac7 = 0x85 ∷ 0x0F ∷ 0 ∷ 5 ∷ 0x80 ∷ 0 ∷ 7 ∷ 0x80 ∷ 0 ∷ []

@@ -1,33 +1,32 @@
--- Rows of sessions and runs of their events. `rowStep` is the definition that the contract of `tacit_row_event` cites, so what is said of runs is said of
--- the code. Assumes nothing.
-use Prim.Native.Nat.{ℕ, _+_, _≤_, _<_}
+-- Rows of sessions and runs of their events. `rowStep` is the definition that the contract of `tacit_row_event` cites. Assumes nothing.
+use Prim.Native.Nat.{ℕ, _+_, _<_}
 use mathlib.Core.Path.{_≡_}
 use mathlib.Core.Bool.{Bool, true, false, not, _&&_}
 use mathlib.Core.List.{List, [], _∷_}
 use mathlib.Core.Logic.{_↔_}
 use lib.ListN.{length}
-use lib.Dec.{eqb}
 use Rattle.choice.specs.Pick.{pick}
 use Rattle.sets.specs.Set.{empty}
-use Rattle.kinds.specs.Kinds.{isIn}
+use Rattle.kinds.specs.Kinds.{allApplications, isIn}
 use Rattle.area.specs.Area.{readArea}
 use Rattle.session.specs.declared.Session.{Session}
 use Rattle.session.specs.declared.After.{After}
+use Rattle.refusals.specs.Refusals.{notRefused}
 use Rattle.session.specs.Session.{isReady, inForce, negotiated}
-use Rattle.session.specs.Creation.{roleFlags, fresh}
-use Rattle.session.specs.Events as E
-use Rattle.session.specs.Events.{opening}
-use Rattle.row.specs.declared.Event.{Event as Numbers}
+use Rattle.session.specs.With.{fresh}
+use Rattle.session.specs.Creation.{roleFlags}
+use Rattle.session.specs.Decisions.{outcomeAtLimit}
+use Rattle.session.specs.Events.{afterInitialization, Mismatch, step}
+use Rattle.row.specs.declared.EventNumbers.{EventNumbers}
 use Rattle.row.specs.declared.Limits.{Limits}
-use Rattle.row.specs.Limits.{noLimits, limitOf}
-use Rattle.row.specs.Event.{isOn}
+use Rattle.row.specs.Limiting.{noLimits, limitOf}
+use Rattle.row.specs.Events.{initializationNumber, eventOf}
 use Rattle.row.specs.Row.{sessionAt, uses, count, allSound, inRow, eventAt, rowAfter, roomAfter}
-use Rattle.promises.specs.Run.{Event, Initialization, Capability, LocalChange, Mismatch, Hello, Closed, step}
 
 -- an event of the session with the row number `at`, with the limits, octets and room that it takes
 pub record RowEvent : Type 0 where
   pub at : ℕ
-  pub event : Numbers
+  pub event : EventNumbers
   pub limits : Limits
   pub area : List ℕ
   pub room : List ℕ
@@ -41,7 +40,7 @@ abbrev pub rowThen : List Session → RowEvent → List Session
 rowThen row e = rowAfter row (e .at) (e .event) (e .limits) (e .area) (length (e .room))
 
 abbrev pub roomThen : List Session → RowEvent → List ℕ
-roomThen row e = roomAfter row (e .at) (e .event) (e .room)
+roomThen row e = roomAfter row (e .at) (e .event) (e .limits) (e .area) (e .room)
 
 -- the row after events, one after another
 abbrev pub rowRun : List Session → List RowEvent → List Session
@@ -59,7 +58,7 @@ OthersStay = (row : List Session) (e : RowEvent) (k : ℕ) → (k ≡ e .at → 
 -- refused, it changes none, and the room stays
 abbrev pub RowRefusedIsNothing : Type 0
 RowRefusedIsNothing =
-    (row : List Session) (e : RowEvent) → (rowStep row e .answer .refusal ≡ 0 → ⊥) → (rowThen row e ≡ row) × (roomThen row e ≡ e .room)
+    (row : List Session) (e : RowEvent) → (rowStep row e .answer .refusal ≡ notRefused → ⊥) → (rowThen row e ≡ row) × (roomThen row e ≡ e .room)
 
 -- ---- "each application's count equals the times a session gained it as a negotiated application less the times one lost it"
 -- the session of the event uses n after it and not before; before it and not after
@@ -100,12 +99,12 @@ CountsFollow = (row : List Session) (es : List RowEvent) (n : ℕ) → AllFresh 
 -- ---- "Otherwise outcome 3, the state as in a mismatch"
 -- the session is what a mismatch notification would have left, and nothing is lost, gained or written
 pub record TurnedAway (s : Session) (after : After) : Type 0 where
-  pub session : after .session ≡ E.mismatch s .session
-  pub answer : after .answer ≡ record { refusal = 0; outcome = 3; lost = 0; gained = 0; written = 0 }
+  pub session : after .session ≡ step s Mismatch .session
+  pub answer : after .answer ≡ record { refusal = notRefused; outcome = outcomeAtLimit; lost = 0; gained = 0; written = 0 }
 
 abbrev pub LimitIsMismatch : Type 0
 LimitIsMismatch =
-    (row : List Session) (es : List RowEvent) (e : RowEvent) → rowStep (rowRun row es) e .answer .outcome ≡ 3
+    (row : List Session) (es : List RowEvent) (e : RowEvent) → rowStep (rowRun row es) e .answer .outcome ≡ outcomeAtLimit
     → TurnedAway (sessionAt (rowRun row es) (e .at)) (rowStep (rowRun row es) e)
 
 -- ---- "opens only if at least one of them is used by fewer Open sessions than its limit"
@@ -113,47 +112,36 @@ LimitIsMismatch =
 pub record FindsCommon (row : List Session) (e : RowEvent) : Type 0 where
   pub inside : inRow row (e .at) ≡ true
   pub all-sound : allSound row ≡ true
-  pub is-initialization : e .event .which ≡ 0
+  pub is-initialization : e .event .which ≡ initializationNumber
   pub ready : isReady (sessionAt row (e .at)) ≡ true
-  pub readable : readArea (e .area) .refusal ≡ 0
-  pub in-force : inForce (opening (sessionAt row (e .at)) (e .area) (readArea (e .area))) ≡ true
-  pub common : empty (negotiated (opening (sessionAt row (e .at)) (e .area) (readArea (e .area)))) ≡ false
+  pub readable : readArea (e .area) .refusal ≡ notRefused
+  pub in-force : inForce (afterInitialization (sessionAt row (e .at)) (e .area) (readArea (e .area))) ≡ true
+  pub common : empty (negotiated (afterInitialization (sessionAt row (e .at)) (e .area) (readArea (e .area)))) ≡ false
 
--- a common application that is under its limit
-pub record UnderLimit (row : List Session) (e : RowEvent) : Type 0 where
+-- a common application that is below its limit
+pub record BelowLimit (row : List Session) (e : RowEvent) : Type 0 where
   pub application : ℕ
-  pub is-common : isIn (negotiated (opening (sessionAt row (e .at)) (e .area) (readArea (e .area)))) application ≡ true
+  pub is-common : isIn (negotiated (afterInitialization (sessionAt row (e .at)) (e .area) (readArea (e .area)))) application ≡ true
   pub fewer : count row application < limitOf (e .limits) application
 
 -- it opens, all common applications negotiated, exactly when there is one; else it is turned away
 pub record LimitDecides (row : List Session) (e : RowEvent) : Type 0 where
-  pub opens : (rowStep row e .session ≡ opening (sessionAt row (e .at)) (e .area) (readArea (e .area))) ↔ UnderLimit row e
-  pub turns-away : (rowStep row e .answer .outcome ≡ 3) ↔ (UnderLimit row e → ⊥)
+  pub opens : (rowStep row e .session ≡ afterInitialization (sessionAt row (e .at)) (e .area) (readArea (e .area))) ↔ BelowLimit row e
+  pub turns-away : (rowStep row e .answer .outcome ≡ outcomeAtLimit) ↔ (BelowLimit row e → ⊥)
 
 abbrev pub LimitsDecide : Type 0
 LimitsDecide = (row : List Session) (e : RowEvent) → FindsCommon row e → LimitDecides row e
 
--- ---- the base's events are the row's events where no limit binds
-abbrev pub baseOf : RowEvent → Event
-baseOf e =
-    pick (eqb (e .event .which) 0) (Initialization (e .area))
-    (pick (eqb (e .event .which) 1) (Capability (e .area))
-    (pick (eqb (e .event .which) 2) (LocalChange (e .event .«ta_id») (isOn (e .event)) (e .room))
-    (pick (eqb (e .event .which) 3) Mismatch
-    (pick (eqb (e .event .which) 4) (Hello (e .event .number))
-    Closed))))
-
--- one of the six events, of a session of a sound row
+-- ---- where no limit binds the event is that of the session by itself, with every application below its limit
 pub record InRow (row : List Session) (e : RowEvent) : Type 0 where
   pub inside : inRow row (e .at) ≡ true
   pub all-sound : allSound row ≡ true
-  pub one-of-six : e .event .which ≤ 5
 
 abbrev pub BaseWhereNoLimitBinds : Type 0
 BaseWhereNoLimitBinds =
-    (row : List Session) (e : RowEvent) → InRow row e → (rowStep row e .answer .outcome ≡ 3 → ⊥)
-    → rowStep row e ≡ step (sessionAt row (e .at)) (baseOf e)
+    (row : List Session) (e : RowEvent) → InRow row e → (rowStep row e .answer .outcome ≡ outcomeAtLimit → ⊥)
+    → rowStep row e ≡ step (sessionAt row (e .at)) (eventOf (e .event) allApplications (e .area) (length (e .room)))
 
 -- and none binds before one is set: "64 until set"
 abbrev pub NoLimitBindsUnset : Type 0
-NoLimitBindsUnset = (row : List Session) (e : RowEvent) → e .limits ≡ noLimits → rowStep row e .answer .outcome ≡ 3 → ⊥
+NoLimitBindsUnset = (row : List Session) (e : RowEvent) → e .limits ≡ noLimits → rowStep row e .answer .outcome ≡ outcomeAtLimit → ⊥

@@ -3,7 +3,7 @@ use Prim.Native.Nat.{ℕ}
 use mathlib.Core.Path.{_≡_}
 use mathlib.Core.Bool.{true}
 use Rattle.sets.specs.Set.{has}
-use Rattle.kinds.specs.Kinds.{isIn, opens, controlled, Some}
+use Rattle.kinds.specs.Kinds.{appCount, isIn, opens, controlled, Some}
 use Rattle.session.specs.declared.Session.{Session}
 use Rattle.session.specs.Session.{permitted}
 
@@ -21,7 +21,7 @@ Maps s n k = has (opens (s .protects) n) k ≡ true
 
 -- the peer has disabled k: one of the disabled Apps controls it
 abbrev pub Disables : Session → ℕ → Type 0
-Disables s k = Some controlled 4 (s .disabled) k
+Disables s k = Some controlled appCount (s .disabled) k
 
 -- the session permits k
 abbrev pub Permits : Session → ℕ → Type 0

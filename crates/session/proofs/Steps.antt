@@ -21,9 +21,9 @@ use Rattle.session.specs.Session.{isReady, isOpen, inForce, negotiated, 
 use Rattle.session.specs.With.{mismatched}
 use Rattle.session.specs.Limits.{atLimit}
 use Rattle.session.specs.Decisions.{outcomeAtLimit, refused, answered, Decision, Refused, Unchanged, Done, AsMismatch, Negotiate, Admit, Send, settled}
-use Rattle.session.specs.Events.{checked, onInitialization, Event, Initialization, decision, step}
+use Rattle.session.specs.Events.{checked, onInitialization, Event, Initialization, Numbered, decision, step}
 use Rattle.session.proofs.Made.{mismatched-sound, next-sound}
-use Rattle.session.proofs.View.{Narrow, Numbered, Facts, facts-of}
+use Rattle.session.proofs.View.{Narrow, Facts, facts-of}
 
 -- ---- sound
 module _ (s : Session) (r : Sound s) where

@@ -23,7 +23,7 @@ use Rattle.session.specs.declared.After.{After}
 use Rattle.session.specs.Session.{stateReady, stateOpen, isReady, isOpen, isGone, usesTac, inForce, dynamic, recorded, usesTacBit, inForceBit, recordedBit, clearedOutOfOpen, negotiated, nothingCommon, Sound}
 use Rattle.session.specs.With.{withNext, withOtherEnabled, backToReady, heldToReady, greeted, changed}
 use Rattle.session.specs.Decisions.{answered, unchanged, Decision, Refused, Unchanged, Done, AsMismatch, Negotiate, Admit, Send, settled}
-use Rattle.session.specs.Events.{checked, afterInitialization, onInitialization, afterCapability, flagsAfter, listAfter, onCapability, same, already, writing, onLocalChange, onMismatch, onHello, onClosed, onUnknown, Event, Initialization, Capability, LocalChange, Mismatch, Hello, Closed, Unknown, decision}
+use Rattle.session.specs.Events.{checked, afterInitialization, onInitialization, afterCapability, flagsAfter, listAfter, onCapability, same, already, writing, onLocalChange, onMismatch, onHello, onClosed, onUnknown, Event, Initialization, Capability, LocalChange, Mismatch, Hello, Closed, Unknown, Numbered, decision}
 use Rattle.session.proofs.SoundMeans.{means-sound}
 use Rattle.session.proofs.Made.{never, Basic, basic, back-sound, mismatched-shut, ToReady, to-ready, gone-shut, greeted-sound, sound-common, changed-basic, changed-sound, opened-uses, opened-basic, opened-sound, told-uses, told-basic, told-sound}
 use Rattle.session.proofs.Alike.{Alike, alike, Follows, common-more, mismatch-follows, done-follows, negotiate-follows, admit-follows, send-follows}
@@ -33,16 +33,6 @@ use Rattle.session.proofs.Alike.{Alike, alike, Follows, common-more, mi
 pub record Narrow (s : Session) : Type 0 where
   pub hello : s .hello < 2 ^ 32
   pub next : s .next < 2 ^ 32
-
--- "Hello with a sequence number of 0 to 4,294,967,295"
-abbrev pub Numbered : Event → Type 0
-Numbered (Initialization area belowLimit) = Unit {0}
-Numbered (Capability area) = Unit {0}
-Numbered (LocalChange n on room) = Unit {0}
-Numbered Mismatch = Unit {0}
-Numbered (Hello number) = number < 2 ^ 32
-Numbered Closed = Unit {0}
-Numbered Unknown = Unit {0}
 
 -- an application was changed, which was not so already
 pub record Changes (s : Session) (n : ℕ) (on : Bool) (t : Session) : Type 0 where

@@ -1,6 +1,6 @@
 -- States and events: what each event is decided to come to, by the tests of document 01 in its order. "Order: 10, 7, 1, then TLVs from the left";
 -- "local change: 10, 6, Unchanged, 9, 8". Assumes nothing.
-use Prim.Native.Nat.{ℕ}
+use Prim.Native.Nat.{ℕ, _^_, _<_}
 use mathlib.Core.Bool.{Bool, true, false, not, _&&_, _||_}
 use mathlib.Core.List.{List, [], _∷_}
 use lib.Dec.{eqb, ltb, leb}
@@ -128,6 +128,16 @@ pub data Event : Type 0 where
   Hello : ℕ → Event
   Closed : Event
   Unknown : Event
+
+-- "Hello with a sequence number of 0 to 4,294,967,295"
+abbrev pub Numbered : Event → Type 0
+Numbered (Initialization area belowLimit) = Unit {0}
+Numbered (Capability area) = Unit {0}
+Numbered (LocalChange n on room) = Unit {0}
+Numbered Mismatch = Unit {0}
+Numbered (Hello number) = number < 2 ^ 32
+Numbered Closed = Unit {0}
+Numbered Unknown = Unit {0}
 
 abbrev pub decision : Session → Event → Decision
 decision s (Initialization area belowLimit) = onInitialization s area belowLimit

@@ -6,18 +6,19 @@ use mathlib.Core.List.{List}
 use lib.ListN.{length}
 use lib.Dec.{eqb}
 use Rattle.choice.specs.Pick.{pick}
+use Rattle.refusals.specs.Refusals.{notSound}
 use Rattle.session.specs.declared.Created.{Created}
 use Rattle.session.specs.declared.Created.the-variants.{Fresh, Refused}
 use Rattle.session.specs.Creation.{refusalOf}
-use Rattle.record.specs.Record.{stored}
+use Rattle.record.specs.Record.{recordLength, storedIn}
 
 -- ---- creation: 10, "the room for a new one is not of its size (22 octets)", then 6
 unfoldable pub creationRefusal : Created → List ℕ → ℕ
-creationRefusal c l = pick (eqb (length l) 22) (refusalOf c) 10
+creationRefusal c l = pick (eqb (length l) recordLength) (refusalOf c) notSound
 
 -- refused, it yields no session: the room stays
 unfoldable pub createdIn : Created → List ℕ → List ℕ
-createdIn (Fresh s) l = stored s l
+createdIn (Fresh s) l = storedIn s l
 createdIn (Refused n) l = l
 
 pub record CreatedIn (c : Created) (l : List ℕ) (r : ℕ) (l′ : List ℕ) : Type 0 where

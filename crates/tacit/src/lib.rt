@@ -1,23 +1,25 @@
-// What the label daemon calls. Each function decodes a record, lets the session answer, and stores the session after it; none asks anything of its
-// caller. include/tacit.h says the same to C.
+// What the label daemon calls. Each function decodes the record that it is lent, lets the session answer, and stores the session after it; none asks
+// anything of its caller. include/tacit.h says the same to C.
 ghost use mathlib.Core.Path.{_≡_};
 ghost use lib.ListN.{length};
+ghost use Rattle.kinds.specs.Kinds.{allApplications};
 ghost use Rattle.area.specs.Area.{readArea};
 ghost use Rattle.session.specs.Session.{sound};
 ghost use Rattle.session.specs.Creation.{roleFlags, created};
-ghost use Rattle.session.specs.Events.{initialization, capability, localChange, roomAfter, mismatch, hello, closed};
+ghost use Rattle.session.specs.Events.{Initialization, Capability, LocalChange, Mismatch, Hello, Closed, step, roomAfter};
 ghost use Rattle.session.specs.Questions.{permittedKinds, permission, retryInterval};
 ghost use Rattle.record.specs.Record.{decoded};
 ghost use Rattle.record.specs.Carried.{Carried};
-ghost use Rattle.record.specs.Loaded.{loaded, storeRefusal, storedSound};
-ghost use Rattle.row.specs.Limits.{noLimits, limited};
+ghost use Rattle.record.specs.Loaded.{load, storeRefusal, storeOctets};
+ghost use Rattle.row.specs.Limiting.{noLimits, limited};
 ghost use Rattle.row.specs.Row.{eventAt, rowAfter, roomAfter as rowRoom, countOf};
 ghost use Rattle.tacit.specs.Creation.{CreatedIn};
 use area::Reading;
 use kinds::TaId;
+use message::Message;
 use record::Loaded;
 use row::Count;
-use row::Event;
+use row::EventNumbers;
 use row::Limited;
 use row::Limits;
 use session::Answer;
@@ -27,87 +29,91 @@ use session::Permission;
 use session::Retry;
 use session::Session;
 
-// How many sessions a row may have.
-const ROW_MOST: usize = 64;
-
 #[no_mangle]
-pub extern "C" fn tacit_initialization(kept: &mut [u8], area: &[u8]) -> Answer
-    ensures { λ r. ⌜ Carried (initialization (decoded (now (kept .entry))) (now (area .entry))) (now (kept .entry)) r (now (kept .exit)) ⌝ }
+pub extern "C" fn tacit_initialization(lent: &mut [u8], area: &[u8]) -> Answer
+    ensures { λ r. ⌜ Carried (step (decoded (now (lent .entry))) (Initialization (now (area .entry)) allApplications)) (now (lent .entry)) r (now (lent .exit)) ⌝ }
 {
-    let after = record::decode(kept).initialization(area);
-    record::carry(kept, after)
+    let after = record::decoded(lent).initialization(area, TaId::ALL);
+    record::carry(lent, after)
 }
 
 #[no_mangle]
-pub extern "C" fn tacit_capability(kept: &mut [u8], area: &[u8]) -> Answer
-    ensures { λ r. ⌜ Carried (capability (decoded (now (kept .entry))) (now (area .entry))) (now (kept .entry)) r (now (kept .exit)) ⌝ }
+pub extern "C" fn tacit_capability(lent: &mut [u8], area: &[u8]) -> Answer
+    ensures { λ r. ⌜ Carried (step (decoded (now (lent .entry))) (Capability (now (area .entry)))) (now (lent .entry)) r (now (lent .exit)) ⌝ }
 {
-    let after = record::decode(kept).capability(area);
-    record::carry(kept, after)
+    let after = record::decoded(lent).capability(area);
+    record::carry(lent, after)
 }
 
 #[no_mangle]
 pub extern "C" fn tacit_local_change(
-    kept: &mut [u8],
+    lent: &mut [u8],
     ta_id: u32,
     on: bool,
     room: &mut [u8],
 ) -> Answer
-    ensures { λ r. ⌜ Carried (localChange (decoded (now (kept .entry))) «ta_id» on (length (now (room .entry)))) (now (kept .entry)) r (now (kept .exit)) ⌝ }
-    ensures { λ _. ⌜ now (room .exit) ≡ roomAfter (decoded (now (kept .entry))) «ta_id» on (now (room .entry)) ⌝ }
+    ensures { λ r. ⌜ Carried (step (decoded (now (lent .entry))) (LocalChange «ta_id» on (length (now (room .entry))))) (now (lent .entry)) r (now (lent .exit)) ⌝ }
+    ensures { λ _. ⌜ now (room .exit) ≡ roomAfter (decoded (now (lent .entry))) (LocalChange «ta_id» on (length (now (room .entry)))) (now (room .entry)) ⌝ }
 {
-    let after = record::decode(kept).local_change(TaId(ta_id), on, room);
-    record::carry(kept, after)
+    let before = record::decoded(lent);
+    let after = before.local_change(TaId(ta_id), on, room.len());
+    let message = Message::Change {
+        number: before.next,
+        ta_id,
+        on,
+    };
+    message::write(room, after.answer.written, message);
+    record::carry(lent, after)
 }
 
 #[no_mangle]
-pub extern "C" fn tacit_mismatch(kept: &mut [u8]) -> Answer
-    ensures { λ r. ⌜ Carried (mismatch (decoded (now (kept .entry)))) (now (kept .entry)) r (now (kept .exit)) ⌝ }
+pub extern "C" fn tacit_mismatch(lent: &mut [u8]) -> Answer
+    ensures { λ r. ⌜ Carried (step (decoded (now (lent .entry))) Mismatch) (now (lent .entry)) r (now (lent .exit)) ⌝ }
 {
-    let after = record::decode(kept).mismatch();
-    record::carry(kept, after)
+    let after = record::decoded(lent).mismatch();
+    record::carry(lent, after)
 }
 
 #[no_mangle]
-pub extern "C" fn tacit_hello(kept: &mut [u8], number: u32) -> Answer
-    ensures { λ r. ⌜ Carried (hello (decoded (now (kept .entry))) number) (now (kept .entry)) r (now (kept .exit)) ⌝ }
+pub extern "C" fn tacit_hello(lent: &mut [u8], number: u32) -> Answer
+    ensures { λ r. ⌜ Carried (step (decoded (now (lent .entry))) (Hello number)) (now (lent .entry)) r (now (lent .exit)) ⌝ }
 {
-    let after = record::decode(kept).hello(number);
-    record::carry(kept, after)
+    let after = record::decoded(lent).hello(number);
+    record::carry(lent, after)
 }
 
 #[no_mangle]
-pub extern "C" fn tacit_closed(kept: &mut [u8]) -> Answer
-    ensures { λ r. ⌜ Carried (closed (decoded (now (kept .entry)))) (now (kept .entry)) r (now (kept .exit)) ⌝ }
+pub extern "C" fn tacit_closed(lent: &mut [u8]) -> Answer
+    ensures { λ r. ⌜ Carried (step (decoded (now (lent .entry))) Closed) (now (lent .entry)) r (now (lent .exit)) ⌝ }
 {
-    let after = record::decode(kept).closed();
-    record::carry(kept, after)
+    let after = record::decoded(lent).closed();
+    record::carry(lent, after)
 }
 
 // Stores a fresh session in a room of 22 octets, or answers why not.
-fn created_in(kept: &mut [u8], made: Created) -> u8
-    ensures { λ r. ⌜ CreatedIn made (now (kept .entry)) r (now (kept .exit)) ⌝ }
+fn created_in(lent: &mut [u8], made: Created) -> u8
+    ensures { λ r. ⌜ CreatedIn made (now (lent .entry)) r (now (lent .exit)) ⌝ }
 {
     match made {
         Created::Fresh(session) => {
-            if kept.len() == record::LENGTH {
-                record::encode(session, kept);
-                return 0;
+            if lent.len() == record::LENGTH {
+                record::stored_in(session, lent);
+                return refusals::NOT_REFUSED;
             }
-            10
+            refusals::NOT_SOUND
         }
         Created::Refused(n) => {
-            if kept.len() == record::LENGTH {
+            if lent.len() == record::LENGTH {
                 return n;
             }
-            10
+            refusals::NOT_SOUND
         }
     }
 }
 
 #[no_mangle]
 pub extern "C" fn tacit_create(
-    kept: &mut [u8],
+    lent: &mut [u8],
     initiating: bool,
     active: bool,
     uses_tac: bool,
@@ -116,7 +122,7 @@ pub extern "C" fn tacit_create(
     enabled: u32,
     first_number: u32,
 ) -> u8
-    ensures { λ r. ⌜ CreatedIn (created (roleFlags initiating active «uses_tac» drops) «protected_kinds» enabled «first_number») (now (kept .entry)) r (now (kept .exit)) ⌝ }
+    ensures { λ r. ⌜ CreatedIn (created (roleFlags initiating active «uses_tac» drops) «protected_kinds» enabled «first_number») (now (lent .entry)) r (now (lent .exit)) ⌝ }
 {
     let made = Session::new(
         initiating,
@@ -127,7 +133,7 @@ pub extern "C" fn tacit_create(
         enabled,
         first_number,
     );
-    created_in(kept, made)
+    created_in(lent, made)
 }
 
 #[no_mangle]
@@ -138,45 +144,45 @@ pub extern "C" fn tacit_read(area: &[u8]) -> Reading
 }
 
 #[no_mangle]
-pub extern "C" fn tacit_permitted(kept: &[u8], kind: u32) -> Permission
-    ensures { λ r. ⌜ r ≡ permission (decoded (now (kept .entry))) kind ⌝ }
+pub extern "C" fn tacit_permitted(lent: &[u8], kind: u32) -> Permission
+    ensures { λ r. ⌜ r ≡ permission (decoded (now (lent .entry))) kind ⌝ }
 {
-    record::decode(kept).permission(kind)
+    record::decoded(lent).permission(kind)
 }
 
 #[no_mangle]
-pub extern "C" fn tacit_permitted_kinds(kept: &[u8]) -> Kinds
-    ensures { λ r. ⌜ r ≡ permittedKinds (decoded (now (kept .entry))) ⌝ }
+pub extern "C" fn tacit_permitted_kinds(lent: &[u8]) -> Kinds
+    ensures { λ r. ⌜ r ≡ permittedKinds (decoded (now (lent .entry))) ⌝ }
 {
-    record::decode(kept).permitted_kinds()
+    record::decoded(lent).permitted_kinds()
 }
 
 #[no_mangle]
-pub extern "C" fn tacit_retry_interval(kept: &[u8]) -> Retry
-    ensures { λ r. ⌜ r ≡ retryInterval (decoded (now (kept .entry))) ⌝ }
+pub extern "C" fn tacit_retry_interval(lent: &[u8]) -> Retry
+    ensures { λ r. ⌜ r ≡ retryInterval (decoded (now (lent .entry))) ⌝ }
 {
-    record::decode(kept).retry_interval()
+    record::decoded(lent).retry_interval()
 }
 
 #[no_mangle]
-pub extern "C" fn tacit_sound(kept: &[u8]) -> bool
-    ensures { λ r. ⌜ r ≡ sound (decoded (now (kept .entry))) ⌝ }
+pub extern "C" fn tacit_sound(lent: &[u8]) -> bool
+    ensures { λ r. ⌜ r ≡ sound (decoded (now (lent .entry))) ⌝ }
 {
-    record::decode(kept).sound()
+    record::decoded(lent).sound()
 }
 
 #[no_mangle]
-pub extern "C" fn tacit_load(kept: &[u8]) -> Loaded
-    ensures { λ r. ⌜ r ≡ loaded (now (kept .entry)) ⌝ }
+pub extern "C" fn tacit_load(lent: &[u8]) -> Loaded
+    ensures { λ r. ⌜ r ≡ load (now (lent .entry)) ⌝ }
 {
-    record::load(kept)
+    record::load(lent)
 }
 
 #[no_mangle]
-pub extern "C" fn tacit_store(session: Session, kept: &mut [u8]) -> u8
-    ensures { λ r. ⌜ (r ≡ storeRefusal session (now (kept .entry))) × (now (kept .exit) ≡ storedSound session (now (kept .entry))) ⌝ }
+pub extern "C" fn tacit_store(session: Session, lent: &mut [u8]) -> u8
+    ensures { λ r. ⌜ (r ≡ storeRefusal session (now (lent .entry))) × (now (lent .exit) ≡ storeOctets session (now (lent .entry))) ⌝ }
 {
-    record::store(session, kept)
+    record::store(session, lent)
 }
 
 #[no_mangle]
@@ -190,7 +196,7 @@ pub extern "C" fn tacit_no_limits() -> Limits
 pub extern "C" fn tacit_set_limit(limits: Limits, ta_id: u32, limit: u32) -> Limited
     ensures { λ r. ⌜ r ≡ limited limits «ta_id» limit ⌝ }
 {
-    limits.with(TaId(ta_id), limit)
+    limits.limited(TaId(ta_id), limit)
 }
 
 // The row is lent: one pass over it, and the answer by value.
@@ -198,9 +204,9 @@ pub extern "C" fn tacit_set_limit(limits: Limits, ta_id: u32, limit: u32) -> Lim
 pub extern "C" fn tacit_row_count(row: &[Session], ta_id: u32) -> Count
     ensures { λ r. ⌜ r ≡ countOf (now (row .entry)) «ta_id» ⌝ }
 {
-    if (0 < row.len()) & (row.len() <= ROW_MOST) {
+    if (0 < row.len()) & (row.len() <= row::MOST_SESSIONS) {
         let tally = row::tally_of(row);
-        return tally.count(ta_id);
+        return tally.count_by(ta_id);
     }
     row::uncounted()
 }
@@ -210,14 +216,14 @@ pub extern "C" fn tacit_row_count(row: &[Session], ta_id: u32) -> Count
 pub extern "C" fn tacit_row_event(
     row: &mut [Session],
     at: usize,
-    event: Event,
+    event: EventNumbers,
     limits: Limits,
     area: &[u8],
     room: &mut [u8],
 ) -> Answer
-    ensures { λ r. ⌜ (r ≡ eventAt (now (row .entry)) at event limits (now (area .entry)) (length (now (room .entry))) .answer) × (now (row .exit) ≡ rowAfter (now (row .entry)) at event limits (now (area .entry)) (length (now (room .entry)))) × (now (room .exit) ≡ rowRoom (now (row .entry)) at event (now (room .entry))) ⌝ }
+    ensures { λ r. ⌜ (r ≡ eventAt (now (row .entry)) at event limits (now (area .entry)) (length (now (room .entry))) .answer) × (now (row .exit) ≡ rowAfter (now (row .entry)) at event limits (now (area .entry)) (length (now (room .entry)))) × (now (room .exit) ≡ rowRoom (now (row .entry)) at event limits (now (area .entry)) (now (room .entry))) ⌝ }
 {
-    if (at < row.len()) & (row.len() <= ROW_MOST) {
+    if (at < row.len()) & (row.len() <= row::MOST_SESSIONS) {
         let tally = row::tally_of(row);
         let after = row::event_in(row[at], tally, event, limits, area, room);
         row[at] = after.session;

@@ -2,7 +2,8 @@
 use mathlib.Core.Path.{refl, sym}
 use borrow.Author.Tests.{eq-eqb, ne-eqb}
 use Rattle.choice.proofs.Branch.{taken, left}
-use Rattle.record.specs.Record.{stored}
+use Rattle.refusals.specs.Refusals.{notRefused, notSound}
+use Rattle.record.specs.Record.{recordLength, storedIn}
 use Rattle.tacit.specs.Creation.{creationRefusal, createdIn}
 use borrow.Author.Needs.{needs}
 use Rattle.tacit.proofs.created_in.Statement.{statement}
@@ -11,37 +12,37 @@ use Rattle.tacit.proofs.created_in.Tie as tie
 enum-known-made : tie.Need-enum-known-made
 enum-known-made c = search needs
 
-encode-requires : tie.Need-encode-requires
-encode-requires c κs = search needs
+stored-in-requires : tie.Need-stored-in-requires
+stored-in-requires c κs = search needs
 
 same-length : tie.Need-same-length
 same-length c = search needs
 
 returns : tie.Need-returns
 unfolding creationRefusal createdIn
-returns c = rw (c .before .before .before .before .before .before .made .given .1) (record { refusal = sym (taken 0 10 (eq-eqb _ 22 (c .before .before .before .before .if1 .taken))); octets = c .before .before .encode .ensures })
+returns c = rw (c .before .before .before .before .before .before .made .given .1) (record { refusal = sym (taken notRefused notSound (eq-eqb _ recordLength (c .before .before .before .before .if1 .taken))); octets = c .before .before .stored-in .ensures })
 
 enum-known-made-2 : tie.Need-enum-known-made-2
 enum-known-made-2 c = search needs
 
 returns-2 : tie.Need-returns-2
 unfolding creationRefusal createdIn
-returns-2 c = rw (c .before .before .made2 .given .1) (record { refusal = sym (taken _ 10 (eq-eqb _ 22 (c .if2 .taken))); octets = refl })
+returns-2 c = rw (c .before .before .made2 .given .1) (record { refusal = sym (taken _ notSound (eq-eqb _ recordLength (c .if2 .taken))); octets = refl })
 
 returns-3 : tie.Need-returns-3
-unfolding creationRefusal createdIn stored
-returns-3 c = rw (c .before .before .made .given .1) (record { refusal = sym (left 0 10 (ne-eqb _ 22 (c .if1 .left))); octets = sym (left _ _ (ne-eqb _ 22 (c .if1 .left))) })
+unfolding creationRefusal createdIn storedIn
+returns-3 c = rw (c .before .before .made .given .1) (record { refusal = sym (left notRefused notSound (ne-eqb _ recordLength (c .if1 .left))); octets = sym (left _ _ (ne-eqb _ recordLength (c .if1 .left))) })
 
 returns-4 : tie.Need-returns-4
 unfolding creationRefusal createdIn
-returns-4 c = rw (c .before .before .made2 .given .1) (record { refusal = sym (left _ 10 (ne-eqb _ 22 (c .if2 .left))); octets = refl })
+returns-4 c = rw (c .before .before .made2 .given .1) (record { refusal = sym (left _ notSound (ne-eqb _ recordLength (c .if2 .left))); octets = refl })
 
 pub created-in-spec : {M : Type 1} → statement M
 created-in-spec =
     tie.close
     (tie.spec
     enum-known-made
-    encode-requires
+    stored-in-requires
     same-length
     returns
     enum-known-made-2

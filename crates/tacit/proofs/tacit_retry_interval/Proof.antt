@@ -3,14 +3,14 @@ use borrow.Author.Needs.{needs}
 use Rattle.tacit.proofs.tacit_retry_interval.Statement.{statement}
 use Rattle.tacit.proofs.tacit_retry_interval.Tie as tie
 
-decode-requires : tie.Need-decode-requires
-decode-requires c κs = search needs
+decoded-requires : tie.Need-decoded-requires
+decoded-requires c κs = search needs
 
 retry-interval-requires : tie.Need-retry-interval-requires
 retry-interval-requires c κs = search needs
 
 returns : tie.Need-returns
-returns c = simp (c .retry-interval .ensures, c .before .decode .ensures)
+returns c = simp (c .retry-interval .ensures, c .before .decoded .ensures)
 
 pub tacit-retry-interval-spec : {M : Type 1} → statement M
-tacit-retry-interval-spec = tie.close (tie.spec decode-requires retry-interval-requires returns)
+tacit-retry-interval-spec = tie.close (tie.spec decoded-requires retry-interval-requires returns)

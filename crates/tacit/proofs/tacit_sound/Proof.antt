@@ -3,14 +3,14 @@ use borrow.Author.Needs.{needs}
 use Rattle.tacit.proofs.tacit_sound.Statement.{statement}
 use Rattle.tacit.proofs.tacit_sound.Tie as tie
 
-decode-requires : tie.Need-decode-requires
-decode-requires c κs = search needs
+decoded-requires : tie.Need-decoded-requires
+decoded-requires c κs = search needs
 
 sound-requires : tie.Need-sound-requires
 sound-requires c κs = search needs
 
 returns : tie.Need-returns
-returns c = simp (c .sound .ensures, c .before .decode .ensures)
+returns c = simp (c .sound .ensures, c .before .decoded .ensures)
 
 pub tacit-sound-spec : {M : Type 1} → statement M
-tacit-sound-spec = tie.close (tie.spec decode-requires sound-requires returns)
+tacit-sound-spec = tie.close (tie.spec decoded-requires sound-requires returns)
