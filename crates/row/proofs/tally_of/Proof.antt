@@ -56,7 +56,7 @@ use Rattle.row.specs.Tally.{tallied}
 use Rattle.row.proofs.Tally as U
 use Rattle.row.proofs.Tally.Laws as U′
 use Rattle.row.proofs.Locals.{Blocks, env, locals, holding, enters, leaves, keeps-only, held, var, part, sets, resets, refills, lands-in, relands-in, retold}
-use Rattle.row.proofs.Walk.{after, session-size, session-data, tally-data, low, Good, fits, makes, answered}
+use Rattle.row.proofs.Walk.{after, session-size, session-data, tally-data, low, Good, fits, makes, answered, asks}
 use Rattle.row.proofs.Tally.nothing as nothing-yet
 use Rattle.row.proofs.Tally.nothing.Symbol as nothing-def
 use Rattle.row.proofs.Tally.nothing.Symbol.{name as #nothing}
@@ -157,12 +157,6 @@ module _ {M : Type 1} (𝓤 : URA M) (H : Heap 𝓤) (A : Atoms 𝓤) (W : Given
       qed W (‵ (U.the-row .own t (low tally-data t ∷ [])) ∷ ‵ (T.the-row .own (sessionAt ys i) (mach i ∷ [])) ∷ []) ∵
       nothing ! $ move ! (2 ∷ 0 ∷ []) $ join ! $ move ! (1 ∷ 0 ∷ []) $ join ! $ nothing ! $ join ! $ frame ! $ done !
 
-  abbrev to-start : Start 𝓤 H A mem run .Ghost
-  to-start = ((tt, tt, tt, tt, tt), tt)
-
-  goes-start : ent 𝓤 (sem 𝓤 H A ftrue) (Start 𝓤 H A mem run .pre to-start)
-  goes-start = qed W (‵ ftrue ∷ []) ∵ nothing ! $ join ! $ frame ! $ done !
-
   -- where the loop stands: at i, with the tally of those before it
   abbrev Upto : Type 0
   Upto = (i : ℕ) × ((t : Tally) × ((i ≤ length ys) × (Good tally-data t × (tallied t (dropL i ys) ≡ tallied S.nothing ys))))
@@ -217,7 +211,7 @@ module _ {M : Type 1} (𝓤 : URA M) (H : Heap 𝓤) (A : Atoms 𝓤) (W : Given
         keeps-only ! En (%row ∷ %tally ∷ %k ∷ []) refl $
         again ! Nearer At u (i + 1, (r, (add-one-le (within less), (good, step ys i t (within less) (u .1 .1 .1 .1) r e)))) (add-one-dec (length ys) i (within less)))))))
         (λ over. jumps ! $ exec ! C Λ En mir.t-4 (atRet En Post) $
-        sets ! %result (of-opd ! (var ! %tally refl)) refl (fits tally-data W t t-is .0) $ leaves ! refl refl $
+        sets ! %result (of-opd ! (var ! %tally refl)) refl (fits tally-data W t t-is .0) $ leaves ! En refl refl $
         by ! (exits t t-is (last ys i t (le-antisymm (u .1 .1 .0) (nltb→le i (length ys) over)) (u .1 .1 .1 .1))))
       where
         i : ℕ
@@ -240,8 +234,7 @@ module _ {M : Type 1} (𝓤 : URA M) (H : Heap 𝓤) (A : Atoms 𝓤) (W : Given
 
     starts : Sq W (With ((%row, sliceVal (b, o) (length ys)) ∷ [])) (runs C Λ En mir.t-1 (atRet En Post))
     starts =
-        nothing ! $ use1 W (raw (Start 𝓤 H A mem run .pre to-start)) goes-start $
-        calls-at ! (fmOf 𝓤 H (W .laws) 𝓣) (Start 𝓤 H A mem run) known-start to-start (no-more !) (λ v.
+        asks ! (fmOf 𝓤 H (W .laws) 𝓣) (Start 𝓤 H A mem run) known-start ((tt, tt, tt, tt, tt), tt) refl refl (λ v.
         answered ! tally-data (‵ ftrue) (lasts nothing-yet.ended tt tt) (λ r _. r ≡ S.nothing) (id⊢ 𝓤 _) (λ r ws e good. drop ! $ drop ! $
         lands-in ! %tally refl (fits tally-data W r good .0) $
         sets ! %k (of-opd ! (lit ! tt)) refl (tt, record { fits = lit< tt }) $
