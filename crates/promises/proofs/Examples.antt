@@ -1,60 +1,78 @@
--- The twelve examples and the counterexample hold: they are computed. Assumes nothing.
+-- The examples of sessions and of rows, and the counterexamples, hold: they are computed, with every definition unfolded. Assumes nothing.
 use mathlib.Core.Path.{refl}
 use Rattle.choice.specs.Pick.{pick}
-use Rattle.sets.specs.Set.{has, common, union, minus, with, without, empty, below, numbered, switched}
+use Rattle.sets.specs.Set.{has, common, union, minus, with, without, empty, below, numbered, switched, chosen}
 use Rattle.kinds.specs.Kinds.{isIn, setOf, opens, controlled, gather, opened, disables}
 use Rattle.octets.specs.Octets.{over}
-use Rattle.area.specs.Area.{at16, fault, taken, takeTac, takeSac, takeDynamic, passOther, byType, tlvAt, readFrom, readArea, part}
+use Rattle.area.specs.Area.{at16, takeTlv, passOther, byType, tlvAt, readFrom, readArea, part}
 use Rattle.lists.specs.Tac.{sBit, idAt, eAt, stood, after, tacList}
 use Rattle.lists.specs.Sac.{sacElement, sacAfter, sacList}
-use Rattle.message.specs.Message.{eOctet}
-use Rattle.session.specs.Session.{spareZero, forceSound, listedSound, openSound, helloSound, heldSound, goneSound, sound, permitted, mismatched, apart, woken}
+use Rattle.message.specs.Message.{roomWith}
+use Rattle.session.specs.Session.{nothingCommon, spareZero, forceSound, listedSound, openSound, helloSound, heldSound, goneSound, sound, permitted}
+use Rattle.session.specs.With.{mismatched, heldToReady}
 use Rattle.session.specs.Creation.{raised}
-use Rattle.session.specs.Events.{answered, settled, opening, initialization, listAfter, flagsAfter, capable, capability, sent, writing, localChange, roomAfter, hello}
+use Rattle.session.specs.Limits.{used, atLimit}
+use Rattle.session.specs.Decisions.{answered, settled}
+use Rattle.session.specs.Events.{afterInitialization, onInitialization, listAfter, flagsAfter, afterCapability, onCapability, writing, onLocalChange, onHello, roomAfter}
+use Rattle.row.specs.Limiting.{capped}
+use Rattle.row.specs.Events.{eventOf}
+use Rattle.row.specs.Row.{count, belowLimit, allSound, eventAt}
 use Rattle.promises.specs.Examples.{Examples, WhyItStops, WhyAtThatMoment}
+use Rattle.promises.specs.RowExamples.{RowExamples, WhyTheOneSession}
+
+computed : Examples × (WhyItStops × (WhyAtThatMoment × (RowExamples × WhyTheOneSession)))
+unfolding
+    pick has common union minus with without empty below numbered switched chosen isIn setOf opens controlled gather opened disables over at16 takeTlv
+    passOther byType tlvAt readFrom readArea part sBit idAt eAt stood after tacList sacElement sacAfter sacList roomWith nothingCommon spareZero forceSound
+    listedSound openSound helloSound heldSound goneSound sound permitted mismatched heldToReady raised used atLimit answered settled afterInitialization
+    onInitialization listAfter flagsAfter afterCapability onCapability writing onLocalChange onHello roomAfter capped eventOf count belowLimit allSound
+    eventAt
+computed = (
+  record {
+    one = refl;
+    one-kinds = refl;
+    two = refl;
+    three = refl;
+    four = refl;
+    five = refl;
+    five-open = refl;
+    six = refl;
+    seven = refl;
+    eight = refl;
+    nine = refl;
+    nine-past = refl;
+    ten = refl;
+    ten-passed = refl;
+    eleven = refl;
+    eleven-open = refl;
+    twelve = refl;
+    twelve-written = refl;
+    twelve-refused = refl;
+    twelve-room = refl;
+  },
+  (
+    record { first = refl; second = refl },
+    (
+      record { first = refl; second = refl; in-force = refl; listed = refl },
+      (
+        record { two-open = refl; third = refl; third-ready = refl; fourth = refl; both = refl; passed = refl },
+        record { first-row = refl; second-row = refl },
+      ),
+    ),
+  ),
+)
 
 pub examples : Examples
-unfolding
-    pick has common union minus with without empty below numbered switched isIn setOf opens controlled gather opened disables over at16 fault taken
-    takeTac takeSac takeDynamic passOther byType tlvAt readFrom readArea part sBit idAt eAt stood after tacList sacElement sacAfter sacList eOctet
-    spareZero forceSound listedSound openSound helloSound heldSound goneSound sound permitted mismatched apart woken raised answered settled opening
-    initialization listAfter flagsAfter capable capability sent writing localChange roomAfter
-examples =
-    record {
-      one = refl;
-      one-kinds = refl;
-      two = refl;
-      three = refl;
-      four = refl;
-      five = refl;
-      five-open = refl;
-      six = refl;
-      seven = refl;
-      eight = refl;
-      nine = refl;
-      nine-past = refl;
-      ten = refl;
-      ten-passed = refl;
-      eleven = refl;
-      eleven-open = refl;
-      twelve = refl;
-      twelve-written = refl;
-      twelve-refused = refl;
-      twelve-room = refl;
-    }
+examples = computed .0
 
 pub why-it-stops : WhyItStops
-unfolding
-    pick has common union minus with without empty below numbered switched isIn setOf opens controlled gather opened disables at16 fault taken takeTac
-    takeSac takeDynamic passOther byType tlvAt readFrom readArea part sBit idAt eAt stood after tacList sacElement sacAfter sacList spareZero
-    forceSound listedSound openSound helloSound heldSound goneSound sound permitted mismatched apart woken raised answered settled opening
-    initialization hello
-why-it-stops = record { first = refl; second = refl }
+why-it-stops = computed .1 .0
 
 pub why-at-that-moment : WhyAtThatMoment
-unfolding
-    pick has common union minus with without empty below numbered switched isIn setOf opens controlled gather opened disables over at16 fault taken
-    takeTac takeSac takeDynamic passOther byType tlvAt readFrom readArea part sBit idAt eAt stood after tacList sacElement sacAfter sacList eOctet
-    spareZero forceSound listedSound openSound helloSound heldSound goneSound sound permitted mismatched apart woken raised answered settled opening
-    initialization listAfter flagsAfter capable capability sent writing localChange roomAfter
-why-at-that-moment = record { first = refl; second = refl; in-force = refl; listed = refl }
+why-at-that-moment = computed .1 .1 .0
+
+pub row-examples : RowExamples
+row-examples = computed .1 .1 .1 .0
+
+pub why-the-one-session : WhyTheOneSession
+why-the-one-session = computed .1 .1 .1 .1

@@ -6,4 +6,3 @@ pub mod Records
 pub mod Rows
 pub mod Limits
 pub mod RowCondition3
-pub mod RowExamples

@@ -16,42 +16,33 @@ use Rattle.sets.specs.Set.{Within}
 use Rattle.sets.proofs.Chosen.{chosen-same}
 use Rattle.session.specs.declared.Session.{Session}
 use Rattle.session.specs.declared.After.{After}
-use Rattle.session.specs.Session.{Sound, sound, isReady, isOpen, besides}
-use Rattle.session.specs.Events as E
-use Rattle.session.specs.Events.{refused}
+use Rattle.session.specs.Session.{Sound, sound, isReady, isOpen}
+use Rattle.session.specs.With.{noSession, withOtherEnabled}
+use Rattle.session.specs.Decisions.{refused}
+use Rattle.session.specs.Events.{Event, step}
 use Rattle.session.proofs.SoundMeans.{sound-means}
-use Rattle.session.proofs.StaysSound.{ready-shut}
-use Rattle.row.specs.declared.Event.{Event as Numbers}
+use Rattle.session.proofs.Made.{ready-shut}
+use Rattle.session.proofs.Alike.{Alike, Follows}
+use Rattle.session.proofs.View.{view}
+use Rattle.session.proofs.Steps.{not-ready}
+use Rattle.refusals.specs.Refusals.{outsideRow}
+use Rattle.kinds.specs.Kinds.{applicationCount}
+use Rattle.row.specs.declared.EventNumbers.{EventNumbers}
 use Rattle.row.specs.declared.Limits.{Limits}
-use Rattle.row.specs.Limits.{limitOf}
-use Rattle.row.specs.Event.{isOn, told, happens}
-use Rattle.row.specs.Row.{nobody, sessionAt, uses, count, underLimit, allSound, inRow, eventAt}
-use Rattle.promises.specs.Run.{Capability, LocalChange, Mismatch, Hello, Closed}
+use Rattle.row.specs.Limiting.{mostSessions, limitOf}
+use Rattle.row.specs.Events.{initializationNumber, eventOf}
+use Rattle.row.specs.Row.{sessionAt, uses, count, belowLimit, allSound, inRow, eventAt}
 use Rattle.promises.specs.Condition3.{NeverLess}
 use Rattle.promises.specs.Rows.{RowEvent, rowStep, rowThen, rowRun}
 use Rattle.promises.specs.RowCondition3.{RowPair, StaysOpenAt, RowCondition3}
-use Rattle.promises.proofs.Alike.{Alike, alike, Follows, checked-follows, limited-follows, step-follows}
 use Rattle.promises.proofs.Condition3.{alike-less, members}
 use Rattle.promises.proofs.Rows.{at-set, others-stay, rows-length, sound-at, then-sound}
 use Rattle.promises.proofs.Limits.{shut-uses}
 
--- ---- one event of the one session
-module _ (s : Session) (e m : ℕ) (h : Within (s .enabled) e) (r : Sound s) (r′ : Sound (besides s e m)) (ev : Numbers) (area room : List ℕ) where
-  told-follows : Follows (told ev s) (told ev (besides s e m))
-  unfolding told
-  told-follows =
-      pick-both Follows (eqb (ev .which) 3) (λ _. step-follows s e m h r r′ Mismatch)
-      (λ _. pick-both Follows (eqb (ev .which) 4) (λ _. step-follows s e m h r r′ (Hello (ev .number)))
-      (λ _. pick-both Follows (eqb (ev .which) 5) (λ _. step-follows s e m h r r′ Closed)
-      (λ _. checked-follows s e m h r r′ (refused s 7) (refused (besides s e m) 7) (λ _. alike s e m h))))
-
-  happens-follows : (under under′ : ℕ) → (isReady s ≡ true → under ≡ under′)
-      → Follows (happens ev s under area (length room)) (happens ev (besides s e m) under′ area (length room))
-  unfolding happens
-  happens-follows under under′ same =
-      pick-both Follows (eqb (ev .which) 0) (λ _. limited-follows s e m h r r′ area under under′ same)
-      (λ _. pick-both Follows (eqb (ev .which) 1) (λ _. step-follows s e m h r r′ (Capability area))
-      (λ _. pick-both Follows (eqb (ev .which) 2) (λ _. step-follows s e m h r r′ (LocalChange (ev .«ta_id») (isOn ev) room)) (λ _. told-follows)))
+-- ---- one event of the one session: only a Ready session asks which applications are below their limit
+asks-none : (s : Session) → isReady s ≡ false → (ev : EventNumbers) (b b′ : ℕ) (area : List ℕ) (room : ℕ) → step s (eventOf ev b area room) ≡ step s (eventOf ev b′ area room)
+unfolding eventOf
+asks-none s h ev b b′ area room = pick-both (λ (x y : Event). step s x ≡ step s y) (eqb (ev .which) initializationNumber) (λ _. not-ready s h area b b′) (λ _. refl)
 
 -- ---- the two rows
 record Both (r t : List Session) (at : ℕ) : Type 0 where
@@ -60,7 +51,7 @@ record Both (r t : List Session) (at : ℕ) : Type 0 where
   pub first-sound : allSound r ≡ true
   pub second-sound : allSound t ≡ true
   pub like : Alike (sessionAt r at) (sessionAt t at)
-  pub same-under : isReady (sessionAt r at) ≡ true → (l : Limits) → underLimit l r ≡ underLimit l t
+  pub same-below : isReady (sessionAt r at) ≡ true → (l : Limits) → belowLimit l r ≡ belowLimit l t
 
 module _ (r t : List Session) (at : ℕ) (b : Both r t at) where
   first-is : Sound (sessionAt r at)
@@ -70,28 +61,37 @@ module _ (r t : List Session) (at : ℕ) (b : Both r t at) where
   second-is = sound-means (sessionAt t at) (sound-at t at (b .second-sound) (rw (sym (b .same-length)) (b .inside)))
 
   -- the event of the one session
-  happens-both : (ev : Numbers) (l : Limits) (area room : List ℕ)
-      → Follows (happens ev (sessionAt r at) (underLimit l r) area (length room)) (happens ev (sessionAt t at) (underLimit l t) area (length room))
-  happens-both ev l area room =
-      let like = b .like in
-      subst (λ (z : Session). Follows (happens ev (sessionAt r at) (underLimit l r) area (length room)) (happens ev z (underLimit l t) area (length room))) (sym (like .same-else))
-      (happens-follows (sessionAt r at) (sessionAt t at .enabled) (sessionAt t at .next) (like .more) first-is (subst Sound (like .same-else) second-is) ev area room
-      (underLimit l r) (underLimit l t) (λ q. b .same-under q l))
+  step-both : (ev : EventNumbers) (l : Limits) (area : List ℕ) (room : ℕ)
+      → Follows (step (sessionAt r at) (eventOf ev (belowLimit l r) area room)) (step (sessionAt t at) (eventOf ev (belowLimit l t) area room))
+  step-both ev l area room = subst (Follows (step s (eventOf ev (belowLimit l r) area room))) (go (isReady s) refl) same-event
+    where
+      s : Session
+      s = sessionAt r at
 
-  own-event : (ev : Numbers) (l : Limits) (area room : List ℕ) → Follows (eventAt r at ev l area (length room)) (eventAt t at ev l area (length room))
+      same-event : Follows (step s (eventOf ev (belowLimit l r) area room)) (step (sessionAt t at) (eventOf ev (belowLimit l r) area room))
+      same-event =
+          let like = b .like in
+          subst (λ (z : Session). Follows (step s (eventOf ev (belowLimit l r) area room)) (step z (eventOf ev (belowLimit l r) area room))) (sym (like .same-else))
+          (view s (sessionAt t at .enabled) (sessionAt t at .next) (like .more) first-is (subst Sound (like .same-else) second-is) (eventOf ev (belowLimit l r) area room) .follows)
+
+      go : (x : Bool) → isReady s ≡ x → step (sessionAt t at) (eventOf ev (belowLimit l r) area room) ≡ step (sessionAt t at) (eventOf ev (belowLimit l t) area room)
+      go true q = ap (λ (m : ℕ). step (sessionAt t at) (eventOf ev m area room)) (b .same-below q l)
+      go false q = asks-none (sessionAt t at) (ap isReady (b .like .same-else) ∙ q) ev (belowLimit l r) (belowLimit l t) area room
+
+  own-event : (ev : EventNumbers) (l : Limits) (area room : List ℕ) → Follows (eventAt r at ev l area (length room)) (eventAt t at ev l area (length room))
   unfolding eventAt
   own-event ev l area room =
       subst (Follows (eventAt r at ev l area (length room))) (sym second-step) (subst (λ (z : After). Follows z (in-second (inRow r at))) (sym first-step)
-      (pick-both Follows (inRow r at) (λ _. happens-both ev l area room) (λ _ _. b .like)))
+      (pick-both Follows (inRow r at) (λ _. step-both ev l area (length room)) (λ _ _. b .like)))
     where
       in-second : Bool → After
-      in-second x = pick x (happens ev (sessionAt t at) (underLimit l t) area (length room)) (refused (sessionAt t at) 11)
+      in-second x = pick x (step (sessionAt t at) (eventOf ev (belowLimit l t) area (length room))) (refused (sessionAt t at) outsideRow)
 
-      first-step : eventAt r at ev l area (length room) ≡ pick (inRow r at) (happens ev (sessionAt r at) (underLimit l r) area (length room)) (refused (sessionAt r at) 11)
-      first-step = ap (λ (z : After). pick (inRow r at) z (refused (sessionAt r at) 11)) (taken _ _ (b .first-sound))
+      first-step : eventAt r at ev l area (length room) ≡ pick (inRow r at) (step (sessionAt r at) (eventOf ev (belowLimit l r) area (length room))) (refused (sessionAt r at) outsideRow)
+      first-step = ap (λ (z : After). pick (inRow r at) z (refused (sessionAt r at) outsideRow)) (taken _ _ (b .first-sound))
 
       second-step : eventAt t at ev l area (length room) ≡ in-second (inRow r at)
-      second-step = ap (λ (z : After). pick (inRow t at) z (refused (sessionAt t at) 11)) (taken _ _ (b .second-sound)) ∙ ap in-second (ap (λ (k : ℕ). ltb at k && leb k 64) (sym (b .same-length)))
+      second-step = ap (λ (z : After). pick (inRow t at) z (refused (sessionAt t at) outsideRow)) (taken _ _ (b .second-sound)) ∙ ap in-second (ap (λ (k : ℕ). ltb at k && leb k mostSessions) (sym (b .same-length)))
 
 -- Open is not Ready
 open-ready : (s : Session) → isOpen s ≡ true → isReady s ≡ true → ⊥
@@ -106,7 +106,7 @@ both-after r t at e b o =
       first-sound = then-sound r e (b .first-sound);
       second-sound = then-sound t e (b .second-sound);
       like = go (ℕ-discrete at (e .at));
-      same-under = λ q. absurd (open-ready (sessionAt (rowThen r e) at) o q);
+      same-below = λ q. absurd (open-ready (sessionAt (rowThen r e) at) o q);
     }
   where
     go : Dec (at ≡ e .at) → Alike (sessionAt (rowThen r e) at) (sessionAt (rowThen t e) at)
@@ -160,13 +160,13 @@ is-inside r at h = go (decLt at (length r))
     go : Dec (at < length r) → at < length r
     go (yes l) = l
     go (no d) =
-        let none : sound nobody ≡ true = sym (ap sound (List·getD-eq-default r nobody {n = at} (omega arith))) ∙ h in
-        let state = sound-means nobody none .state in
+        let none : sound noSession ≡ true = sym (ap sound (List·getD-eq-default r noSession {n = at} (omega arith))) ∙ h in
+        let state = sound-means noSession none .state in
         absurd (omega arith)
 
 module _ (r t : List Session) (at : ℕ) (p : RowPair r t at) where
   begins : Both r t at
-  unfolding underLimit
+  unfolding belowLimit
   begins =
       let s = sessionAt r at in
       let u = sessionAt t at in
@@ -182,9 +182,9 @@ module _ (r t : List Session) (at : ℕ) (p : RowPair r t at) where
         same-length = p .same-length;
         first-sound = p .first-sound;
         second-sound = p .second-sound;
-        like = record { same-else = pair .alike ∙ ap (besides s (u .enabled)) (sym next); more = members (s .enabled) (u .enabled) (first .enabled) (pair .more) };
-        same-under = λ _ l.
-            chosen-same 13 (λ n. ltb (count r n) (limitOf l n)) (λ n. ltb (count t n) (limitOf l n)) 13
+        like = record { same-else = pair .alike ∙ ap (withOtherEnabled s (u .enabled)) (sym next); more = members (s .enabled) (u .enabled) (first .enabled) (pair .more) };
+        same-below = λ _ l.
+            chosen-same applicationCount (λ n. ltb (count r n) (limitOf l n)) (λ n. ltb (count t n) (limitOf l n)) applicationCount
             (λ n _ _. ap (λ (c : ℕ). ltb c (limitOf l n)) (counts-alike r t at n (p .same-length) (p .others) (shut-uses s n shut) (shut-uses u n shut′)));
       }
 

@@ -60,7 +60,7 @@ module _ (s : Session) (n : ℕ) (on : Bool) (room : ℕ) where
   wrote = go (sound s) refl
     where
       go : (x : Bool) → sound s ≡ x → step s change .answer .written ≡ changeLength → Wrote n room
-      go true h = tells (onLocalChange s n on room) (facts-of s (sound-means s h) change)
+      go true h e = tells (onLocalChange s n on room) (facts-of s (sound-means s h) change) e
       go false h e = absurd (omega (arith, sym (ap (λ (c : Decision). settled s c .answer .written) (left _ _ h)) ∙ e))
 
 -- its last 9 octets are the TAC

@@ -1,12 +1,12 @@
 -- What holds after every event, read off what it was decided to come to: the session is sound if it was, its numbers stay below 2 ^ 32, what is refused
 -- changes nothing, and outcome 3 is a session that was to be admitted. By cases on the decision, and the facts of its view. Assumes nothing.
 use Prim.Native.Nat.{ℕ, _+_, _^_, _<_}
-use mathlib.Core.Path.{_≡_, refl, sym, ap, ap₂, _∙_}
-use mathlib.Core.Bool.{Bool, true, false, _&&_, and-true}
+use mathlib.Core.Path.{_≡_, refl, sym, ap, ap₂, _∙_, subst}
+use mathlib.Core.Bool.{Bool, true, false, _&&_, _||_, and-true, false≢true}
 use mathlib.Core.List.{List}
 use native.Mathlib.Nat.{mod-lt}
 use native.Mathlib.Omega.{arith}
-use lib.Dec.{lit<}
+use lib.Dec.{eqb, lit<}
 use lib.Pow.{pow-pos}
 use Rattle.choice.specs.Pick.{pick}
 use Rattle.choice.proofs.Branch.{by-test, pick-both, taken, left}
@@ -15,15 +15,17 @@ use Rattle.sets.proofs.Bounds.{common-lt}
 use Rattle.sets.proofs.Members.{has-common, has-all, ext}
 use Rattle.refusals.specs.Refusals.{notRefused}
 use Rattle.kinds.specs.Kinds.{applicationCount, allApplications}
+use Rattle.area.specs.Area.{readArea}
 use Rattle.session.specs.declared.Session.{Session}
 use Rattle.session.specs.declared.After.{After}
-use Rattle.session.specs.Session.{isReady, isOpen, inForce, negotiated, nothingCommon, Sound, permitted}
+use Rattle.session.specs.Session.{isReady, isOpen, inForce, negotiated, nothingCommon, sound, Sound, permitted}
 use Rattle.session.specs.With.{mismatched}
 use Rattle.session.specs.Limits.{atLimit}
 use Rattle.session.specs.Decisions.{outcomeAtLimit, refused, answered, Decision, Refused, Unchanged, Done, AsMismatch, Negotiate, Admit, Send, settled}
-use Rattle.session.specs.Events.{checked, onInitialization, Event, Initialization, Numbered, decision, step}
-use Rattle.session.proofs.Made.{mismatched-sound, next-sound}
-use Rattle.session.proofs.View.{Narrow, Facts, facts-of}
+use Rattle.session.specs.Events.{checked, afterInitialization, onInitialization, onMismatch, Event, Initialization, Mismatch, Numbered, decision, step}
+use Rattle.session.proofs.SoundMeans.{sound-means, means-sound}
+use Rattle.session.proofs.Made.{ready-shut, mismatched-sound, mismatched-shut, next-sound, opened-mismatched}
+use Rattle.session.proofs.View.{Narrow, admits-opens, Facts, facts-of}
 
 -- ---- sound
 module _ (s : Session) (r : Sound s) where
@@ -152,6 +154,19 @@ admit-unlimited s t belowLimit small =
     Same : After → After → Type 0
     Same z z′ = (z .answer .outcome ≡ outcomeAtLimit → ⊥) → z ≡ z′
 
+pub initialization-unlimited : (s : Session) (a : List ℕ) (belowLimit : ℕ) → (step s (Initialization a belowLimit) .answer .outcome ≡ outcomeAtLimit → ⊥)
+    → step s (Initialization a belowLimit) ≡ step s (Initialization a allApplications)
+unfolding onInitialization afterInitialization
+initialization-unlimited s a belowLimit =
+    pick-both Same (sound s)
+    (λ h. pick-both Same (isReady s)
+    (λ _. pick-both Same (eqb (readArea a .refusal) notRefused)
+    (λ _. admit-unlimited s (afterInitialization s a (readArea a)) belowLimit (sound-means s h .enabled)) (λ _ _. refl)) (λ _ _. refl))
+    (λ _ _. refl)
+  where
+    Same : Decision → Decision → Type 0
+    Same c c′ = (settled s c .answer .outcome ≡ outcomeAtLimit → ⊥) → settled s c ≡ settled s c′
+
 -- limits are asked of nothing but an Initialization in Ready
 pub not-ready : (s : Session) → isReady s ≡ false → (a : List ℕ) (b b′ : ℕ) → step s (Initialization a b) ≡ step s (Initialization a b′)
 unfolding onInitialization
@@ -163,3 +178,30 @@ pub nothing-lost : (s t : Session) (outcome : ℕ) → isOpen s ≡ false → is
 unfolding answered permitted minus
 nothing-lost s t outcome h k =
     ap₂ (λ (x y : ℕ). record { refusal = notRefused; outcome = outcome; lost = minus x y; gained = minus y x; written = 0 }) (left _ _ h) (left _ _ k)
+
+-- ---- "Otherwise outcome 3, the state as in a mismatch"
+module _ (s : Session) (r : Sound s) (e : Event) (h : step s e .answer .outcome ≡ outcomeAtLimit) where
+  abbrev pub away : TurnedAway s (decision s e)
+  away = turned-away s (decision s e) h
+
+  pub away-facts : Facts s e (Admit (away .session) (away .belowLimit))
+  away-facts = subst (Facts s e) (away .admit) (facts-of s r e)
+
+  pub away-shut : isOpen s ≡ false
+  away-shut = ready-shut (s .state) (r .state) (admits-opens s e (away .session) (away .belowLimit) (away-facts .1) .1 .ready)
+
+  pub away-session : step s e .session ≡ step s Mismatch .session
+  unfolding onMismatch settled answered
+  away-session =
+      let found = admits-opens s e (away .session) (away .belowLimit) (away-facts .1) in
+      let ready = found .1 .ready in
+      ap (λ (z : After). z .session) (away .is) ∙ ap mismatched (found .1 .is) ∙ opened-mismatched s r ready (found .0) (readArea (found .0))
+      ∙ sym (ap (λ (c : Decision). settled s c .session) (taken _ _ (means-sound s r) ∙ taken _ _ (or-first (isReady s) (isOpen s) ready)))
+    where
+      or-first : (x y : Bool) → x ≡ true → (x || y) ≡ true
+      or-first true y k = refl
+      or-first false y k = absurd (false≢true k)
+
+  pub away-answer : step s e .answer ≡ record { refusal = notRefused; outcome = outcomeAtLimit; lost = 0; gained = 0; written = 0 }
+  away-answer =
+      ap (λ (z : After). z .answer) (away .is) ∙ nothing-lost s (mismatched (away .session)) outcomeAtLimit away-shut (mismatched-shut (away .session))

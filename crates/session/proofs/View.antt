@@ -84,6 +84,16 @@ Admits s (Hello number) t b = ⊥
 Admits s Closed t b = ⊥
 Admits s Unknown t b = ⊥
 
+-- whichever event it was, it had an area
+pub admits-opens : (s : Session) (e : Event) (t : Session) (b : ℕ) → Admits s e t b → (area : List ℕ) × Opens s area t
+admits-opens s (Initialization area belowLimit) t b f = (area, f .0)
+admits-opens s (Capability area) t b f = absurd f
+admits-opens s (LocalChange n on room) t b f = absurd f
+admits-opens s Mismatch t b f = absurd f
+admits-opens s (Hello number) t b f = absurd f
+admits-opens s Closed t b f = absurd f
+admits-opens s Unknown t b f = absurd f
+
 -- only a local change writes, and only in Open with room for it
 pub record Writes (s : Session) (room written : ℕ) : Type 0 where
   pub is-open : isOpen s ≡ true

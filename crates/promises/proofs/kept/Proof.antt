@@ -1,14 +1,13 @@
 -- `promises::kept` meets its contract: each promise by its theorem. Assumes nothing.
-use Rattle.record.proofs.RoundTrip.{read-back, stored-back, loaded-back, kept-as-loaded}
-use Rattle.promises.proofs.Runs.{sound-over-runs, refused-is-nothing, room-stays, refused-can-go}
+use Rattle.record.proofs.RoundTrip.{read-back, stored-back, loaded-back, stays-as-loaded}
+use Rattle.promises.proofs.Runs.{sound-over-runs, refused-is-nothing, room-stays, refused-can-go, without-limits}
 use Rattle.promises.proofs.Condition3.{condition-3}
 use Rattle.promises.proofs.Written.{read-as-meant}
 use Rattle.promises.proofs.Records.{records-follow}
 use Rattle.promises.proofs.Rows.{sound-over-rows, others-stay, row-refused-is-nothing, counts-follow}
 use Rattle.promises.proofs.Limits.{limit-is-mismatch, limits-decide, base-where-no-limit-binds, no-limit-binds-unset}
 use Rattle.promises.proofs.RowCondition3.{row-condition-3}
-use Rattle.promises.proofs.Examples.{examples, why-it-stops, why-at-that-moment}
-use Rattle.promises.proofs.RowExamples.{row-examples, why-the-one-session}
+use Rattle.promises.proofs.Examples.{examples, why-it-stops, why-at-that-moment, row-examples, why-the-one-session}
 use Rattle.promises.proofs.kept.Statement.{statement}
 use Rattle.promises.proofs.kept.Tie as tie
 
@@ -19,6 +18,7 @@ returns c =
       refused-is-nothing = refused-is-nothing;
       room-stays = room-stays;
       refused-can-go = refused-can-go;
+      without-limits = without-limits;
       read-back = read-back;
       stored-back = stored-back;
       records-follow = records-follow;
@@ -37,7 +37,7 @@ returns c =
       why-it-stops = why-it-stops;
       why-at-that-moment = why-at-that-moment;
       loaded-back = loaded-back;
-      kept-as-loaded = kept-as-loaded;
+      stays-as-loaded = stays-as-loaded;
       row-examples = row-examples;
       why-the-one-session = why-the-one-session;
     }
