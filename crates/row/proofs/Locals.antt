@@ -1,6 +1,6 @@
 -- The locals of a walked function, all at once. The context of a walk ends in them: their places from the last to the first, and the right to free them. So a
 -- local is found by its number alone, from the end, whatever stands in front.
---     holding hs               what the locals hold: hs lists those that hold something
+--     holding vs hs            what the locals hold: the arguments vs, and the pairs (local, value) of hs; the other locals hold nothing yet
 --     locals E s               the end of a context in which the locals of E hold s
 --     enters                   a function is entered: every local is allocated, and those after the result are given the arguments
 --     leaves, leaves-within    it returns what local 0 holds: every local is freed, whatever it holds
@@ -37,11 +37,7 @@ abbrev either : Bool → Option Val → Option Val → Option Val
 either true a b = a
 either false a b = b
 
-abbrev pub holding : List (ℕ × Val) → ℕ → Option Val
-holding [] k = none
-holding (h ∷ hs) k = either (eqb (h .0) k) (just (h .1)) (holding hs k)
-
--- the same of some locals only
+-- some of them only
 abbrev kept : List ℕ → (ℕ → Option Val) → ℕ → Option Val
 kept [] s k = none
 kept (j ∷ js) s k = either (eqb j k) (s k) (kept js s k)
@@ -55,6 +51,10 @@ args vs k = getD (map just vs) k none
 -- the arguments stand after the result
 abbrev pub arguments : List Val → ℕ → Option Val
 arguments vs k = getD (none ∷ map just vs) k none
+
+abbrev pub holding : List Val → List (ℕ × Val) → ℕ → Option Val
+holding vs [] k = arguments vs k
+holding vs (h ∷ hs) k = either (eqb (h .0) k) (just (h .1)) (holding vs hs k)
 
 abbrev after : (ℕ → Option Val) → ℕ → Option Val
 after s k = s (suc k)

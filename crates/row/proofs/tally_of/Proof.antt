@@ -42,7 +42,7 @@ use denote.Triple.Entry.{onEntry}
 use denote.Triple.Spec.{Meets, tripleOf}
 use denote.Triple.Table.{entered, cited}
 use denote.Triple.Clauses.{lasts}
-use denote.Triple.Walked.{says, Stays, stay-none-slice, walkOf, goes-none-slice, Walks, ends-at, walked, walk-meets}
+use denote.Triple.Walked.{says, Stays, stay-none-slice, walkOf, goes-none-slice, ends-at, walked, walk-meets}
 use denote.Exit.{yes}
 use Rattle.session.specs.declared.Session.{Session}
 use Rattle.session.proofs.Session as T
@@ -72,30 +72,31 @@ abbrev stayed : Stays (f.ended .signature .params) (f.ended .kept)
 stayed = (stay-none-slice (0 ∷ []) tt (plain (λ _. T.the-row)) yes, tt)
 
 -- ---- the locals
-abbrev %row : ℕ
-%row = 1
-
-abbrev %tally : ℕ
-%tally = 2
-
-abbrev %k : ℕ
-%k = 3
-
--- the row's length, then how far its session k lies in
-abbrev %far : ℕ
-%far = 4
-
-abbrev %more : ℕ
-%more = 5
-
-abbrev %place : ℕ
-%place = 6
-
-abbrev %session : ℕ
-%session = 7
-
 abbrev %result : ℕ
 %result = 0
+
+abbrev %row : ℕ
+%row = %result + 1
+
+abbrev %tally : ℕ
+%tally = %row + 1
+
+abbrev %k : ℕ
+%k = %tally + 1
+
+-- the row's length, then how far session k lies in
+abbrev %far : ℕ
+%far = %k + 1
+
+-- session k is there
+abbrev %more : ℕ
+%more = %far + 1
+
+abbrev %place : ℕ
+%place = %more + 1
+
+abbrev %session : ℕ
+%session = %place + 1
 
 -- one more session
 step : (ys : List Session) (i : ℕ) (t : Tally) → i < length ys → tallied t (dropL i ys) ≡ tallied S.nothing ys → (r : Tally) → r ≡ S.tally t (sessionAt ys i) → tallied r (dropL (i + 1) ys) ≡ tallied S.nothing ys
@@ -114,12 +115,19 @@ module _ {M : Type 1} (𝓤 : URA M) (H : Heap 𝓤) (A : Atoms 𝓤) (mem : Mem
   abbrev Start : Contract 𝓤
   Start = tripleOf 𝓤 H A nothing-yet.signature (nothing-yet.spec 𝓤 H A mem run)
 
+  -- the two functions that are called meet their contracts
+  abbrev Known : Tables 𝓤 H → Type 1
+  Known 𝓣 = Triple 𝓤 (𝓣 .C #nothing) Start × Triple 𝓤 (𝓣 .C #tally) Turn
+
 module _ {M : Type 1} (𝓤 : URA M) (H : Heap 𝓤) (A : Atoms 𝓤) (W : Given 𝓤 H A) (mem : Memory → SProp 𝓤) (run : Routine → Fun 𝓤) (κ : Lft) (q : Share) (b o : ℕ) (γ : GName) (ys : List Session) (gn : Room T.the-row (length ys)) where
   abbrev x : RefT (List Session)
   x = record { ptr = (b, o); name = γ; now = ys }
 
+  abbrev row-val : Val
+  row-val = sliceVal (b, o) (length ys)
+
   abbrev at : List Val × Unit {0}
-  at = (sliceVal (b, o) (length ys) ∷ [], tt)
+  at = (row-val ∷ [], tt)
 
   abbrev Post : Val → SProp 𝓤
   Post = walkOf 𝓤 H A f.ended stayed (f.clauses 𝓤 H A mem run) .post (((κ, tt), (q, tt), tt, (x, tt), at), tt)
@@ -164,7 +172,7 @@ module _ {M : Type 1} (𝓤 : URA M) (H : Heap 𝓤) (A : Atoms 𝓤) (W : Given
   Nearer-wf : WellFounded Nearer
   Nearer-wf = InvImage·wf (λ (i : Upto). length ys - i .0) (Nat·lt-wfRel .wf)
 
-  module _ (𝓣 : Tables 𝓤 H) (known-start : Triple 𝓤 (𝓣 .C #nothing) (Start 𝓤 H A mem run)) (known : Triple 𝓤 (𝓣 .C #tally) (Turn 𝓤 H A mem run)) (bs : Blocks (code.function .locals)) where
+  module _ (𝓣 : Tables 𝓤 H) (known : Known 𝓤 H A mem run 𝓣) (bs : Blocks (code.function .locals)) where
     abbrev C : Calls 𝓤 H
     C = 𝓣 .C
 
@@ -176,10 +184,10 @@ module _ {M : Type 1} (𝓤 : URA M) (H : Heap 𝓤) (A : Atoms 𝓤) (W : Given
 
     -- [the slice's borrow; the token; its name; its fact; the locals, which hold hs]
     abbrev With : List (ℕ × Val) → List (Item 𝓤)
-    With hs = ‵ Shared ∷ ‵ (flft κ q) ∷ ‵ Named ∷ ‵ Fact ∷ locals En (holding hs)
+    With hs = ‵ Shared ∷ ‵ (flft κ q) ∷ ‵ Named ∷ ‵ Fact ∷ locals En (holding (row-val ∷ []) hs)
 
     abbrev At : Upto → List (Item 𝓤)
-    At u = With ((%row, sliceVal (b, o) (length ys)) ∷ (%tally, low tally-data (u .1 .0)) ∷ (%k, vint w64 (u .0)) ∷ [])
+    At u = With ((%tally, low tally-data (u .1 .0)) ∷ (%k, vint w64 (u .0)) ∷ [])
 
     abbrev Turned : Upto → Out → SProp 𝓤
     Turned u = afterTurn 𝓤 H (Below 𝓤 H A Nearer At u) (afterBlock 𝓤 H (afterSeq 𝓤 H (Wp 𝓤 H C Λ En mir.t-4 (atReturn 𝓤 H En Post)) (atReturn 𝓤 H En Post)))
@@ -201,7 +209,7 @@ module _ {M : Type 1} (𝓤 : URA M) (H : Heap 𝓤) (A : Atoms 𝓤) (W : Given
         elem-back ! T.the-row q′ ys i nobody (mach i ∷ []) b o (within less) $ shuts-slice ! tt T.the-row q′ ys b o $ move ! (1 ∷ 0 ∷ []) $
         -- and counted
         makes ! session-data (sessionAt ys i) is $ makes ! tally-data t t-is $ use2 W (raw (Turn 𝓤 H A mem run .pre (to-turn t i))) (goes-turn t i) $
-        calls-at ! (fmOf 𝓤 H (W .laws) 𝓣) (Turn 𝓤 H A mem run) known (to-turn t i) (and-then ! (var ! %tally refl) (and-then ! (var ! %session refl) (no-more !))) (λ v.
+        calls-at ! (fmOf 𝓤 H (W .laws) 𝓣) (Turn 𝓤 H A mem run) (known .1) (to-turn t i) (and-then ! (var ! %tally refl) (and-then ! (var ! %session refl) (no-more !))) (λ v.
         answered ! tally-data (‵ ftrue) (lasts tally.ended tt (t, (sessionAt ys i, tt))) (λ r _. r ≡ S.tally t (sessionAt ys i)) (id⊢ 𝓤 _) (λ r ws e good. drop ! $ drop ! $
         land ! (from ! (stop !)) (refills ! %tally refl (fits tally-data W r good .0)) $
         assigns-last ! (bin ! (var ! %k refl) (lit ! tt) (record { fits = next-fits less })) (from ! (stop !)) (refills ! %k refl (tt, record { fits = next-fits less })) $
@@ -229,37 +237,34 @@ module _ {M : Type 1} (𝓤 : URA M) (H : Heap 𝓤) (A : Atoms 𝓤) (W : Given
         next-fits : T (ltb i (length ys)) → i + 1 < 2 ^ 64
         next-fits less = lt-of-le-of-lt (add-one-le (within less)) (gn .0)
 
-    starts : Sq W (With ((%row, sliceVal (b, o) (length ys)) ∷ [])) (runs C Λ En mir.t-1 (atRet En Post))
+    starts : Sq W (With []) (runs C Λ En mir.t-1 (atRet En Post))
     starts =
-        asks ! (fmOf 𝓤 H (W .laws) 𝓣) (Start 𝓤 H A mem run) known-start ((tt, tt, tt, tt, tt), tt) refl refl (λ v.
+        asks ! (fmOf 𝓤 H (W .laws) 𝓣) (Start 𝓤 H A mem run) (known .0) ((tt, tt, tt, tt, tt), tt) refl refl (λ v.
         answered ! tally-data (‵ ftrue) (lasts nothing-yet.ended tt tt) (λ r _. r ≡ S.nothing) (id⊢ 𝓤 _) (λ r ws e good. drop ! $ drop ! $
         lands-in ! %tally refl (fits tally-data W r good .0) $
         sets ! %k (of-opd ! (lit ! tt)) refl (tt, record { fits = lit< tt }) $
         first ! $ blocks ! $ loops ! 𝓣 Nearer Nearer-wf At turns (0, (r, (zero-le, (good, ap (λ (t : Tally). tallied t ys) e))))))
 
-  walk : (𝓣 : Tables 𝓤 H) → Triple 𝓤 (𝓣 .C #nothing) (Start 𝓤 H A mem run) → Triple 𝓤 (𝓣 .C #tally) (Turn 𝓤 H A mem run) → ent 𝓤 (onEntry 𝓤 H A f.signature (κ, tt) (q, tt) (x, tt) at) (WpFn 𝓤 H (𝓣 .C) (𝓣 .Λ) code.function (sliceVal (b, o) (length ys) ∷ []) Post)
-  walk 𝓣 known-start known =
+  walk : (𝓣 : Tables 𝓤 H) → Known 𝓤 H A mem run 𝓣 → ent 𝓤 (onEntry 𝓤 H A f.signature (κ, tt) (q, tt) (x, tt) at) (WpFn 𝓤 H (𝓣 .C) (𝓣 .Λ) code.function (row-val ∷ []) Post)
+  walk 𝓣 known =
       qed W ((‵ (flft κ q) ⊛ ‵ ftrue) ∷ ‵ (owns (ShrSlice (named 0) κ T.the-row ∷ []) (x, tt) at) ∷ []) ∵
-      enters ! (𝓣 .C) (𝓣 .Λ) code.function (sliceVal (b, o) (length ys) ∷ []) _ ((tt, (tt, (record { fits = gn .0 }, tt))), tt) (λ bs.
+      enters ! (𝓣 .C) (𝓣 .Λ) code.function (row-val ∷ []) _ ((tt, (tt, (record { fits = gn .0 }, tt))), tt) (λ bs.
       move ! (1 ∷ []) $ fsplit ! $ fsplit ! $ move ! (1 ∷ []) $ fsplit ! $ move ! (4 ∷ []) $ split ! $ move ! (1 ∷ 5 ∷ []) $ drop ! $ drop ! $ move ! (2 ∷ []) $
-      starts 𝓣 known-start known bs)
+      starts 𝓣 known bs)
 
 module _ {M : Type 1} (𝓤 : URA M) (H : Heap 𝓤) (A : Atoms 𝓤) (W : Given 𝓤 H A) (mem : Memory → SProp 𝓤) (run : Routine → Fun 𝓤) where
-  tally-of-walks : (𝓣 : Tables 𝓤 H) → Triple 𝓤 (𝓣 .C #nothing) (Start 𝓤 H A mem run) → Triple 𝓤 (𝓣 .C #tally) (Turn 𝓤 H A mem run) → Walks 𝓤 H A f.ended stayed (WpFn 𝓤 H (𝓣 .C) (𝓣 .Λ) code.function) (f.clauses 𝓤 H A mem run)
-  tally-of-walks 𝓣 known-start known = walked 𝓤 H A f.ended stayed (f.clauses 𝓤 H A mem run) (WpFn 𝓤 H (𝓣 .C) (𝓣 .Λ) code.function) (λ κs. (slice-vals, tt)) (λ κs. (shr-slice-tells (named 0) (κs .0) T.the-row, tt))
-      (λ κs qs bounds a g are. via 𝓤 _ (fst∗ 𝓤 _ (emp 𝓤)) (walk 𝓤 H A W mem run (κs .0) (qs .0) (a .0 .ptr .0) (a .0 .ptr .1) (a .0 .name) (a .0 .now) (are .0 .0 .1) 𝓣 known-start known))
-
-tally-of-meets : {M : Type 1} (𝓤 : URA M) (H : Heap 𝓤) (A : Atoms 𝓤) (W : Given 𝓤 H A) (mem : Memory → SProp 𝓤) (run : Routine → Fun 𝓤) (𝓣 : Tables 𝓤 H) → Triple 𝓤 (𝓣 .C #nothing) (Start 𝓤 H A mem run) → Triple 𝓤 (𝓣 .C #tally) (Turn 𝓤 H A mem run)
-    → Meets 𝓤 H A f.signature (WpFn 𝓤 H (𝓣 .C) (𝓣 .Λ) code.function) (f.spec 𝓤 H A mem run)
-tally-of-meets 𝓤 H A W mem run 𝓣 known-start known =
-    walk-meets 𝓤 H A f.ended stayed W (goes-none-slice 𝓤 H A W 1 (0 ∷ []) tt (plain (λ _. T.the-row)) yes, tt) (f.clauses 𝓤 H A mem run)
-    (WpFn 𝓤 H (𝓣 .C) (𝓣 .Λ) code.function) (WpFn-mono 𝓤 H (W .laws) 𝓣 code.function) (tally-of-walks 𝓤 H A W mem run 𝓣 known-start known)
+  tally-of-meets : (𝓣 : Tables 𝓤 H) → Known 𝓤 H A mem run 𝓣 → Meets 𝓤 H A f.signature (WpFn 𝓤 H (𝓣 .C) (𝓣 .Λ) code.function) (f.spec 𝓤 H A mem run)
+  tally-of-meets 𝓣 known =
+      walk-meets 𝓤 H A f.ended stayed W (goes-none-slice 𝓤 H A W 1 (0 ∷ []) tt (plain (λ _. T.the-row)) yes, tt) (f.clauses 𝓤 H A mem run) (WpFn 𝓤 H (𝓣 .C) (𝓣 .Λ) code.function) (WpFn-mono 𝓤 H (W .laws) 𝓣 code.function)
+      (walked 𝓤 H A f.ended stayed (f.clauses 𝓤 H A mem run) (WpFn 𝓤 H (𝓣 .C) (𝓣 .Λ) code.function) (λ κs. (slice-vals, tt)) (λ κs. (shr-slice-tells (named 0) (κs .0) T.the-row, tt))
+      (λ κs qs bounds a g are. via 𝓤 _ (fst∗ 𝓤 _ (emp 𝓤)) (walk 𝓤 H A W mem run (κs .0) (qs .0) (a .0 .ptr .0) (a .0 .ptr .1) (a .0 .name) (a .0 .now) (are .0 .0 .1) 𝓣 known)))
 
 pub tally-of-spec : {M : Type 1} → stated.statement M
 unfolding code.routine tablesOf
 tally-of-spec 𝓤 H 𝓜 𝓖 𝓡 =
     entered 𝓤 H (tripleOf 𝓤 H (𝓖 .A) f.signature (f.spec 𝓤 H (𝓖 .A) (𝓜 .mem) (𝓡 .run)))
     (tables 𝓤 H 𝓜 𝓡 code.env .C) (tables 𝓤 H 𝓜 𝓡 code.env .Λ) #tally-of code.function (code.unfolded 𝓤 H 𝓜 𝓡)
-    (tally-of-meets 𝓤 H (𝓖 .A) (givenOf 𝓤 H 𝓜 𝓖) (𝓜 .mem) (𝓡 .run) (tablesOf 𝓤 H 𝓜 (tables 𝓤 H 𝓜 𝓡 code.env))
-    (cited 𝓤 H (Start 𝓤 H (𝓖 .A) (𝓜 .mem) (𝓡 .run)) 𝓜 𝓡 code.env #nothing nothing-def.routine code.calls-row·Tally·nothing (nothing-thm.met 𝓤 H 𝓜 𝓖 𝓡))
-    (cited 𝓤 H (Turn 𝓤 H (𝓖 .A) (𝓜 .mem) (𝓡 .run)) 𝓜 𝓡 code.env #tally tally-def.routine code.calls-row·Tally·tally (tally-thm.met 𝓤 H 𝓜 𝓖 𝓡)))
+    (tally-of-meets 𝓤 H (𝓖 .A) (givenOf 𝓤 H 𝓜 𝓖) (𝓜 .mem) (𝓡 .run) (tablesOf 𝓤 H 𝓜 (tables 𝓤 H 𝓜 𝓡 code.env)) (
+      cited 𝓤 H (Start 𝓤 H (𝓖 .A) (𝓜 .mem) (𝓡 .run)) 𝓜 𝓡 code.env #nothing nothing-def.routine code.calls-row·Tally·nothing (nothing-thm.met 𝓤 H 𝓜 𝓖 𝓡),
+      cited 𝓤 H (Turn 𝓤 H (𝓖 .A) (𝓜 .mem) (𝓡 .run)) 𝓜 𝓡 code.env #tally tally-def.routine code.calls-row·Tally·tally (tally-thm.met 𝓤 H 𝓜 𝓖 𝓡),
+    ))
