@@ -1,4 +1,5 @@
--- What the walks of functions that are lent a row share: pieces of a body, the places of locals, the machine value of a tally, and tests as facts. Assumes nothing.
+-- What the walks of functions that are lent a row share: pieces of a body, the size of a session, structs of plain data and how a call returns one, and tests as
+-- facts. Assumes `Given`.
 use Prim.Native.Nat.{ℕ}
 use mathlib.Core.Path.{_≡_, refl, sym, subst}
 use mathlib.Core.Bool.{Bool, true, false, not}

@@ -46,7 +46,6 @@ use Rattle.row.specs.Tally.{countIn}
 use Rattle.row.proofs.Tallied.{count-in-row, not-counted}
 use Rattle.row.proofs.Locals.{Blocks, env, locals, holding, enters, leaves, leaves-within, var, part, sets, lands-in}
 use Rattle.row.proofs.Walk.{Data, tally-data, low, Good, fits, makes, answered, asks, then-of, is-true, is-false}
-use Rattle.tacit.proofs.Pass.{Passing, Lent, passes}
 use Rattle.row.proofs.uncounted as none
 use Rattle.row.proofs.uncounted.Symbol as none-def
 use Rattle.row.proofs.uncounted.Symbol.{name as #uncounted}
@@ -60,6 +59,7 @@ use Rattle.row.proofs.Tally.count as count
 use Rattle.row.proofs.Tally.count.Symbol as count-def
 use Rattle.row.proofs.Tally.count.Symbol.{name as #count}
 use Rattle.row.proofs.Tally.count.Met as count-thm
+use Rattle.tacit.proofs.Pass.{Passing, Lent, passes}
 use Rattle.tacit.proofs.tacit_row_count.Key.{name as #row-count}
 use Rattle.tacit.proofs.tacit_row_count as f
 use Rattle.tacit.proofs.tacit_row_count.Statement as stated

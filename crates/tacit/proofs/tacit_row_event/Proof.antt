@@ -1,7 +1,7 @@
 -- `tacit::tacit_row_event` meets its contract: a walk of its MIR. Where the row has such a session, the row is lent as `&` for the pass over it and comes back
 -- (Shared.antt); then the borrow is opened, session i is copied out, the event happens to the copy, with the area lent on and the room given up to it, and the
 -- session after it is stored at the place. Else the refusal is made, and row and room stay. Cut at the test and after the pass, with the context of each part
--- written out. Assumes nothing.
+-- said by what its locals hold. Assumes nothing.
 use mathlib.Core.Path.{_≡_, refl, sym, ap, subst, _∙_}
 use Prim.Native.Nat.{ℕ, _+_, _<_, _*_, _^_}
 use mathlib.Core.List.{[], _∷_, List}
@@ -68,7 +68,6 @@ use Rattle.row.specs.Tally.{tallied, eventIn, roomIn}
 use Rattle.row.proofs.Tallied.{event-in-row, room-in-row, outside-answer, outside-row, outside-room}
 use Rattle.row.proofs.Locals.{Blocks, env, locals, holding, enters, leaves, leaves-within, held, var, part, behind, sets, refills, lands-in, retold}
 use Rattle.row.proofs.Walk.{session-size, Data, session-data, tally-data, low, Good, fits, makes, answered, asks, then-of, after, is-true, is-false}
-use Rattle.tacit.proofs.Pass.{Passing, Lent, passes}
 use Rattle.row.proofs.Event as E
 use Rattle.row.proofs.Event.Laws as E′
 use Rattle.row.proofs.Limits as L
@@ -84,6 +83,7 @@ use Rattle.row.proofs.outside as out
 use Rattle.row.proofs.outside.Symbol as out-def
 use Rattle.row.proofs.outside.Symbol.{name as #outside}
 use Rattle.row.proofs.outside.Met as out-thm
+use Rattle.tacit.proofs.Pass.{Passing, Lent, passes}
 use Rattle.tacit.proofs.Shared.{LentShared, lends-shared, comes-back}
 use Rattle.tacit.proofs.tacit_row_event.Key.{name as #row-event}
 use Rattle.tacit.proofs.tacit_row_event as f
@@ -220,6 +220,23 @@ module _ {M : Type 1} (𝓤 : URA M) (H : Heap 𝓤) (A : Atoms 𝓤) (W : Given
   abbrev e : Session
   e = sessionAt ys i
 
+  -- what the contract says of the session after the event, the row and the room
+  abbrev Event-at : After
+  Event-at = eventAt ys i ev li (area .now) (length (room .now))
+
+  abbrev Row-after : List Session
+  Row-after = rowAfter ys i ev li (area .now) (length (room .now))
+
+  abbrev Room-after : List ℕ
+  Room-after = roomAfter ys i ev (room .now)
+
+  -- and what `event_in` says, of the session and of the tally of the row
+  abbrev Event-in : Tally → After
+  Event-in t = eventIn e t ev li (area .now) (length (room .now))
+
+  abbrev Room-in : Tally → List ℕ
+  Room-in t = roomIn e t ev (room .now)
+
   abbrev Obs : List Session → Fml
   Obs zs = fobs γ (codedHoleys T.the-row .code (heres T.the-row zs))
 
@@ -243,7 +260,7 @@ module _ {M : Type 1} (𝓤 : URA M) (H : Heap 𝓤) (A : Atoms 𝓤) (W : Given
     abbrev Left : List Session → List ℕ → List (Item 𝓤)
     Left zs ws = ‵ (Obs zs) ∷ ‵ (Bor zs) ∷ ‵ (flft κ q) ∷ ‵ (finally u8 (room .name) ws) ∷ Toks ∷ ‵ Area ∷ []
 
-    exits : (a : Answer) (zs : List Session) (ws : List ℕ) → Good answer-data a → a ≡ eventAt ys i ev li (area .now) (length (room .now)) .answer → zs ≡ rowAfter ys i ev li (area .now) (length (room .now)) → ws ≡ roomAfter ys i ev (room .now) → length zs ≡ length ys → length ws ≡ length (room .now)
+    exits : (a : Answer) (zs : List Session) (ws : List ℕ) → Good answer-data a → a ≡ Event-at .answer → zs ≡ Row-after → ws ≡ Room-after → length zs ≡ length ys → length ws ≡ length (room .now)
         → ent 𝓤 (⋆ 𝓤 H A (Left zs ws)) (Post (low answer-data a))
     exits a zs ws good ea ez ew len len′ =
         qed W (Left zs ws) ∵
@@ -264,9 +281,6 @@ module _ {M : Type 1} (𝓤 : URA M) (H : Heap 𝓤) (A : Atoms 𝓤) (W : Given
     goes-event t good was =
         qed W (Toks ∷ ‵ Area ∷ ‵ Lent-room ∷ []) ∵ nothing ! $ move ! (3 ∷ 0 ∷ []) $ fjoin ! $ move ! (2 ∷ 0 ∷ []) $ fjoin ! $
         makes ! limits-data li gli $ fjoin ! $ makes ! event-data ev gev $ fjoin ! $ makes ! tally-data t good $ fjoin ! $ makes ! session-data e was $ fjoin ! $ move ! (1 ∷ 0 ∷ []) $ join ! $ frame ! $ nothing ! $ done !
-
-    abbrev Said : Tally → After → List ℕ → Type 0
-    Said t r ws = (r ≡ eventIn e t ev li (area .now) (length (room .now))) × (ws ≡ roomIn e t ev (room .now))
 
     module _ (𝓣 : Tables 𝓤 H) (known : Known 𝓤 H A mem run 𝓣) (bs : Blocks (code.function .locals)) where
       abbrev En : Env 𝓤 H
@@ -305,7 +319,7 @@ module _ {M : Type 1} (𝓤 : URA M) (H : Heap 𝓤) (A : Atoms 𝓤) (W : Given
           -- [two tokens; area; room; area; row[i]; what it owns; the others; the open borrow; obs; auth; the locals]
           use3 W (raw (Happening 𝓤 H A mem run .pre (to-event t))) (goes-event t good was) $
           calls-at ! fm (Happening 𝓤 H A mem run) (known .1) (to-event t) (and-then ! (var ! %session refl) (and-then ! (var ! %tally refl) (and-then ! (var ! %event refl) (and-then ! (var ! %limits refl) (and-then ! (var ! %area refl) (and-then ! (var ! %room-lent refl) (no-more !))))))) (λ v.
-          answered ! after-data Toks (lasts event.ended (κ₁, (κ₂, tt)) (event-arg t)) (λ r zs. Said t r (zs .1 .1 .1 .1 .1 .0)) (id⊢ 𝓤 _) (λ r zs said is.
+          answered ! after-data Toks (lasts event.ended (κ₁, (κ₂, tt)) (event-arg t)) (λ r zs. (r ≡ Event-in t) × (zs .1 .1 .1 .1 .1 .0 ≡ Room-in t)) (id⊢ 𝓤 _) (λ r zs said is.
           let ws = zs .1 .1 .1 .1 .1 .0 in let parts = LL.owed Z.the-type Z′.the-laws r (low after-data r ∷ []) is in
           move ! (1 ∷ []) $ fsplit ! $ drop ! $ fsplit ! $ drop ! $ fsplit ! $ drop ! $ fsplit ! $ drop ! $ fsplit ! $ drop ! $ fsplit ! $ fsplit ! $ move ! (1 ∷ []) $ feqL ! (λ len.
           -- [the room's last list; true; two tokens; area; row[i]; what it owned; the others; the open borrow; obs; auth; the locals]
@@ -320,11 +334,11 @@ module _ {M : Type 1} (𝓤 : URA M) (H : Heap 𝓤) (A : Atoms 𝓤) (W : Given
           sets ! %result (of-opd ! (part ! %after 1 refl refl)) refl (fits answer-data W (r .answer) (parts .1 .0) .0) $ leaves-within ! En Post refl refl refl $
           by ! (exits (r .answer) (set ys i (r .session)) ws (parts .1 .0) (ap (λ (a : After). a .answer) (said .0 ∙ agree counted inside)) (ap (λ (a : After). set ys i (a .session)) (said .0 ∙ agree counted inside)) (said .1 ∙ agree-room counted inside) (length-set ys i (r .session)) len)))))
         where
-          agree : t ≡ tallied S.nothing ys → inRow ys i ≡ true → eventIn e t ev li (area .now) (length (room .now)) ≡ eventAt ys i ev li (area .now) (length (room .now))
-          agree c l = ap (λ (u : Tally). eventIn e u ev li (area .now) (length (room .now))) c ∙ event-in-row ys i ev li (area .now) (length (room .now)) l
+          agree : t ≡ tallied S.nothing ys → inRow ys i ≡ true → Event-in t ≡ Event-at
+          agree c l = ap Event-in c ∙ event-in-row ys i ev li (area .now) (length (room .now)) l
 
-          agree-room : t ≡ tallied S.nothing ys → inRow ys i ≡ true → roomIn e t ev (room .now) ≡ roomAfter ys i ev (room .now)
-          agree-room c l = ap (λ (u : Tally). roomIn e u ev (room .now)) c ∙ room-in-row ys i ev (room .now) l
+          agree-room : t ≡ tallied S.nothing ys → inRow ys i ≡ true → Room-in t ≡ Room-after
+          agree-room c l = ap Room-in c ∙ room-in-row ys i ev (room .now) l
 
       inside : inRow ys i ≡ true → Sq W (With Tests) (runs (𝓣 .C) (𝓣 .Λ) En (then-of mir.s-6) Then)
       inside there =
