@@ -3,7 +3,7 @@
 --     holding vs hs            what the locals hold: the arguments vs, and the pairs (local, value) of hs; the other locals hold nothing yet
 --     locals E s               the end of a context in which the locals of E hold s
 --     enters                   a function is entered: every local is allocated, and those after the result are given the arguments
---     leaves, leaves-within    it returns what local 0 holds: every local is freed, whatever it holds
+--     leaves                   it returns what local 0 holds: every local is freed, whatever it holds
 --     keeps-only               what the other locals hold is forgotten
 --     var, part                a local is read, or a field of it.    behind    the address of what a field points to.    held    a local, where a place goes through it
 --     sets                     a local is assigned, that held nothing.    refills    one that held something is written
@@ -265,13 +265,9 @@ module _ {M : Type 1} {𝓤 : URA M} {H : Heap 𝓤} {A : Atoms 𝓤} {K : Type 
   pub keeps-only : K → (E : Env 𝓤 H) (ks : List ℕ) {G : Goal 𝓤 H} → Ends 𝓤 H A E Γ → Step K W (front E Γ ++ locals E (kept ks (shown 𝓤 H A Γ))) G Γ G
   keeps-only t E ks e = step (λ s. record { prf = via 𝓤 _ (all-kept 𝓤 H A W E ks Γ e) (s .prf) })
 
-  pub leaves-within : K → (E : Env 𝓤 H) {C : Calls 𝓤 H} {Λ : Loops 𝓤 H} {q : Post 𝓤 H} (Kf : Val → SProp 𝓤) {r : Val} {q₀ : Share} → post 𝓤 H q ends ≡ atReturn 𝓤 H E Kf ends → entry 𝓤 H A zero Γ ≡ ‵ (fat q₀ (type E zero) (block E zero) zero r) → Ends 𝓤 H A E Γ
+  pub leaves : K → (E : Env 𝓤 H) {C : Calls 𝓤 H} {Λ : Loops 𝓤 H} {q : Post 𝓤 H} (Kf : Val → SProp 𝓤) {r : Val} {q₀ : Share} → post 𝓤 H q ends ≡ atReturn 𝓤 H E Kf ends → entry 𝓤 H A zero Γ ≡ ‵ (fat q₀ (type E zero) (block E zero) zero r) → Ends 𝓤 H A E Γ
       → Step K W (front E Γ) (prop (Kf r)) Γ (runs C Λ E return q)
-  leaves-within t E Kf {r} within e all = step (λ s. returns-within t Kf within (look t (spot zero Γ) e) $ record { prf = all-freed 𝓤 H A W E Γ (Kf r) all (s .prf) })
-
-  pub leaves : K → (E : Env 𝓤 H) {C : Calls 𝓤 H} {Λ : Loops 𝓤 H} {Kf : Val → SProp 𝓤} {r : Val} {q₀ : Share} → entry 𝓤 H A zero Γ ≡ ‵ (fat q₀ (type E zero) (block E zero) zero r) → Ends 𝓤 H A E Γ
-      → Step K W (front E Γ) (prop (Kf r)) Γ (runs C Λ E return (atRet E Kf))
-  leaves t E {C} {Λ} {Kf} e all = leaves-within t E Kf refl e all
+  leaves t E Kf {r} within e all = step (λ s. returns-within t Kf within (look t (spot zero Γ) e) $ record { prf = all-freed 𝓤 H A W E Γ (Kf r) all (s .prf) })
 
   -- ---- one local
   pub held : K → (k : ℕ) {q : Share} {τ : Ty} {b : ℕ} {v : Val} → entry 𝓤 H A k Γ ≡ ‵ (fat q τ b zero v) → Reads K W Γ τ b zero v

@@ -66,8 +66,8 @@ use Rattle.row.specs.Row.{nobody, sessionAt, inRow, eventAt, rowAfter, roomAfte
 use Rattle.row.specs.Tally as S
 use Rattle.row.specs.Tally.{tallied, eventIn, roomIn}
 use Rattle.row.proofs.Tallied.{event-in-row, room-in-row, outside-answer, outside-row, outside-room}
-use Rattle.row.proofs.Locals.{Blocks, env, locals, holding, enters, leaves, leaves-within, held, var, part, behind, sets, refills, lands-in, retold}
-use Rattle.row.proofs.Walk.{session-size, Data, session-data, tally-data, low, Good, fits, makes, answered, asks, then-of, after, is-true, is-false}
+use Rattle.row.proofs.Locals.{Blocks, env, locals, holding, enters, leaves, held, var, part, behind, sets, refills, lands-in, retold}
+use Rattle.row.proofs.Walk.{session-size, Lent, Data, session-data, tally-data, low, Good, fits, makes, answered, asks, then-of, after, is-true, is-false}
 use Rattle.row.proofs.Event as E
 use Rattle.row.proofs.Event.Laws as E′
 use Rattle.row.proofs.Limits as L
@@ -83,7 +83,7 @@ use Rattle.row.proofs.outside as out
 use Rattle.row.proofs.outside.Symbol as out-def
 use Rattle.row.proofs.outside.Symbol.{name as #outside}
 use Rattle.row.proofs.outside.Met as out-thm
-use Rattle.tacit.proofs.Pass.{Passing, Lent, passes}
+use Rattle.tacit.proofs.Pass.{Passing, passes}
 use Rattle.tacit.proofs.Shared.{LentShared, lends-shared, comes-back}
 use Rattle.tacit.proofs.tacit_row_event.Key.{name as #row-event}
 use Rattle.tacit.proofs.tacit_row_event as f
@@ -331,7 +331,7 @@ module _ {M : Type 1} (𝓤 : URA M) (H : Heap 𝓤) (A : Atoms 𝓤) (W : Given
           makes ! session-data (r .session) (parts .0) $ move ! (1 ∷ 0 ∷ 5 ∷ []) $ elem-put ! T.the-row fullShare ys i (r .session) (low session-data (r .session) ∷ []) b o within $
           move ! (0 ∷ 4 ∷ 5 ∷ 6 ∷ []) $ closes-slice ! tt T.the-row ys (set ys i (r .session)) (length-set ys i (r .session)) b o $
           -- [obs; the borrow; its token; the room's last list; two tokens; area; the locals]
-          sets ! %result (of-opd ! (part ! %after 1 refl refl)) refl (fits answer-data W (r .answer) (parts .1 .0) .0) $ leaves-within ! En Post refl refl refl $
+          sets ! %result (of-opd ! (part ! %after 1 refl refl)) refl (fits answer-data W (r .answer) (parts .1 .0) .0) $ leaves ! En Post refl refl refl $
           by ! (exits (r .answer) (set ys i (r .session)) ws (parts .1 .0) (ap (λ (a : After). a .answer) (said .0 ∙ agree counted inside)) (ap (λ (a : After). set ys i (a .session)) (said .0 ∙ agree counted inside)) (said .1 ∙ agree-room counted inside) (length-set ys i (r .session)) len)))))
         where
           agree : t ≡ tallied S.nothing ys → inRow ys i ≡ true → Event-in t ≡ Event-at
@@ -354,9 +354,9 @@ module _ {M : Type 1} (𝓤 : URA M) (H : Heap 𝓤) (A : Atoms 𝓤) (W : Given
 
       outside : inRow ys i ≡ false → Sq W (With Tests) (runs (𝓣 .C) (𝓣 .Λ) En mir.t-7 (atRet En Post))
       outside none =
-          asks ! fm (Outside 𝓤 H A mem run) (known .2) ((tt, tt, tt, tt, tt), tt) refl refl (λ v.
+          asks ! fm (Outside 𝓤 H A mem run) (known .2) ((tt, tt, tt, tt, tt), tt) _ refl (id⊢ 𝓤 _) (no-more !) (λ v.
           answered ! answer-data (‵ ftrue) (lasts out.ended tt tt) (λ r _. r ≡ refused nobody 11 .answer) (id⊢ 𝓤 _) (λ r ws said good. drop ! $ drop ! $
-          lands-in ! %result refl (fits answer-data W r good .0) $ leaves ! En refl refl $
+          lands-in ! %result refl (fits answer-data W r good .0) $ leaves ! En Post refl refl refl $
           -- [obs; the borrow; its token; two tokens; area; room]: of the room only its last list is left
           move ! (5 ∷ []) $ fsplit ! $ move ! (1 ∷ []) $ fsplit ! $ use1 W (‵ (fres (room .name) (codedHoleys u8 .code (heres u8 (room .now))))) (W .names .obs-res (room .name) (codedHoleys u8 .code (heres u8 (room .now)))) $
           use1 W (‵ (finally u8 (room .name) (room .now))) (res-finally 𝓤 H A W (named 2) κ₂ u8 (room .name) (room .now)) $ keep ! (3 ∷ 4 ∷ 5 ∷ 0 ∷ 6 ∷ 7 ∷ []) $
