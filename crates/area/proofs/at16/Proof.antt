@@ -7,17 +7,8 @@ use borrow.Author.Needs.{needs}
 use Rattle.area.proofs.at16.Statement.{statement}
 use Rattle.area.proofs.at16.Tie as tie
 
-shared-slice-read-high : tie.Need-shared-slice-read-high
-shared-slice-read-high c = search needs
-
 cast-high : tie.Need-cast-high
 cast-high c = omega (arith, c .shared-slice-known .given (c .before .args .at))
-
-add-low : tie.Need-add-low
-add-low c = search needs
-
-shared-slice-read-low : tie.Need-shared-slice-read-low
-shared-slice-read-low c = search needs
 
 cast-low : tie.Need-cast-low
 cast-low c = omega (arith, c .shared-slice-known2 .given (c .before .before .args .at + 1))
@@ -36,11 +27,8 @@ pub at16-spec : {M : Type 1} → statement M
 at16-spec =
     tie.close
     (tie.spec
-    shared-slice-read-high
-    cast-high
-    add-low
-    shared-slice-read-low
-    cast-low
+    (λ c. search needs) cast-high
+    (λ c. search needs) (λ c. search needs) cast-low
     mul-result
     add-result
     returns)

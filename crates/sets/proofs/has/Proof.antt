@@ -9,12 +9,9 @@ use Rattle.sets.proofs.has.Tie as tie
 returns : tie.Need-returns
 returns c = sym (has-above 16 (c .before .args .s) (c .before .args .k) (search needs) (c .if1 .taken))
 
-shr-result : tie.Need-shr-result
-shr-result c = search needs
-
 returns-2 : tie.Need-returns-2
 unfolding has
 returns-2 c = refl
 
 pub has-spec : {M : Type 1} → statement M
-has-spec = tie.close (tie.spec returns shr-result returns-2)
+has-spec = tie.close (tie.spec returns (λ c. search needs) returns-2)
