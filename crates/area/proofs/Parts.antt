@@ -6,7 +6,7 @@ use mathlib.Core.Path.{_≡_, refl}
 use mathlib.Core.List.{List, [], _∷_}
 use lib.ListN.{length}
 use borrow.Author.Tests.{ltb-false, leb-false}
-use Rattle.refusals.specs.Refusals.{notRefused, areaTooLong, cutShort, badLength, unknownType, repeated}
+use Rattle.refusals.specs.Refusals.{notRefused, areaTooLong, cutShort, unknownType}
 use Rattle.choice.proofs.Branch.{by-test}
 use Rattle.area.specs.declared.Span.{Span}
 use Rattle.area.specs.declared.Reading.{Reading}
@@ -34,7 +34,7 @@ module _ (P : List ℕ → Reading → Type 0) (none : (a : List ℕ) (n : ℕ) 
   of-types [] k a head value r h w = by-test (P a) (λ _. w) (λ _. none a unknownType)
   of-types (t ∷ ts) k a head value r h w =
       by-test (P a)
-      (λ _. by-test (P a) (λ _. none a repeated) (λ _. by-test (P a) (λ _. none a badLength) (λ _. k .0 a value r h w)))
+      (λ _. by-test (P a) (λ _. none a _) (λ _. by-test (P a) (λ _. none a _) (λ _. k .0 a value r h w)))
       (λ _. of-types ts (k .1) a head value r h w)
 
   module _ (keeps : Keeps ourTypes) where

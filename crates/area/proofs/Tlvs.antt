@@ -1,5 +1,5 @@
--- An area made of TLVs is read TLV by TLV: the head and the length stand where reading looks for them, and what follows starts where it goes on. By induction
--- over the TLVs, for any octets before them. Assumes nothing.
+-- An area made of TLVs is read TLV by TLV: the head and the length stand where reading looks for them, and what follows starts where it goes
+-- on. By induction over the TLVs, for any octets before them. Assumes nothing.
 use Prim.Native.Nat.{ℕ, zero, suc, _+_, _*_, _-_, _<_, _≤_}
 use mathlib.Core.Path.{_≡_, refl, sym, ap, ap₂, _∙_}
 use mathlib.Core.List.{List, [], _∷_, _++_, append-assoc}

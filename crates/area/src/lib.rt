@@ -146,15 +146,19 @@ fn by_type(head: usize, value: Span, r: Reading) -> Reading
     pass_other(head, r)
 }
 
+fn wide(x: u8) -> usize
+    ensures { λ r. ⌜ (r ≡ x) × (r ≤ 255) ⌝ }
+{
+    x as usize
+}
+
 // 16 bits at a place of the octets.
 pub fn at16(a: &[u8], at: usize) -> usize
     requires { ⌜ at + 2 ≤ length (now a) ⌝ }
     ensures value { λ r. ⌜ r ≡ at16 (now (a .entry)) at ⌝ }
     ensures most { λ r. ⌜ r < 65536 ⌝ }
 {
-    let high = a[at] as usize;
-    let low = a[at + 1] as usize;
-    high * 256 + low
+    wide(a[at]) * 256 + wide(a[at + 1])
 }
 
 // A part within an area.

@@ -24,7 +24,7 @@ tacValue s elements = topBit s ∷ elements
 abbrev pub ours : ℕ → List ℕ → Tlv
 ours type value = record { head = uBit + type; value = value }
 
--- a message: what stands before its area, with the length of what follows the length, and the whole
+-- a message: what stands before its area, where the length counts the number's 4 octets and the area; and the whole
 abbrev pub messageHead : ℕ → ℕ → ℕ → List ℕ
 messageHead type len number = be16 type ++ (be16 (4 + len) ++ be32 number)
 

@@ -27,7 +27,7 @@ const ONE_ELEMENT_TAC: usize = area::HEAD_LENGTH + ONE_ELEMENT;
 // How many octets the message of a change has.
 pub const CHANGE_LENGTH: usize = MESSAGE_HEAD + ONE_ELEMENT_TAC;
 
-// What stands before the area of a message of type t, `len` the length of its area.
+// What stands before the area of a message of type t, `len` the length of its area: the message's length counts its number too.
 fn message_head(t: u32, len: usize, number: u32) -> [u8; 8]
     requires { ⌜ len < 65536 ⌝ }
     ensures { λ r. ⌜ r ≡ messageHead t len number ⌝ }
@@ -67,6 +67,7 @@ fn one_element(n: u32, on: bool) -> [u8; 5]
     [s, (n / 256 % 256) as u8, (n % 256) as u8, e, 0]
 }
 
+// A change: head, then the TAC with one element. Without room for all of it nothing is written.
 fn write_change(room: &mut [u8], number: u32, n: u32, on: bool)
     ensures { λ _. ⌜ now (room .exit) ≡ over (messageOf number n on) (now (room .entry)) ⌝ }
 {

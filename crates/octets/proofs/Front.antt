@@ -1,5 +1,5 @@
--- Octets put over the front of lent ones: one octet more, what has room and what has none, and one part behind another. By the laws of `take` and `drop` at
--- the seams. Assumes nothing.
+-- Octets put over the front of lent ones: one octet more, what has room and what has none, and one part behind another. By the laws of `take`
+-- and `drop` at the seams. Assumes nothing.
 use Prim.Native.Nat.{ℕ, suc, _+_, _-_, _<_, _≤_}
 use mathlib.Core.Path.{_≡_, ap₂, _∙_}
 use mathlib.Core.List.{List, _++_, append-assoc, append-nil}

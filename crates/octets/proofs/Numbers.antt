@@ -1,5 +1,5 @@
--- A number of 16 or 32 bits, put into octets and read back, is the number, and so is a top bit; octets read as a number and put back are the octets. The four octets go
--- by the quotients, one digit at a time. Assumes nothing.
+-- A number of 16 or 32 bits, put into octets and read back, is the number, and so is a top bit; octets read as a number and put back are the
+-- octets. The four octets go by the quotients, one digit at a time. Assumes nothing.
 use Prim.Native.Nat.{ℕ, _+_, _*_, _/_, _%_, _<_}
 use mathlib.Core.Path.{_≡_, refl, sym}
 use mathlib.Core.Bool.{Bool, true, false}

@@ -7,6 +7,10 @@ use lib.Bits.{bitAnd, bitOr, bitXor}
 use lib.Dec.{eqb, leb, ltb}
 use Rattle.choice.specs.Pick.{pick}
 
+-- how wide the sets are that the code has, of 16 bits
+abbrev pub setWidth : ℕ
+setWidth = 16
+
 -- k is in s
 unfoldable pub has : ℕ → ℕ → Bool
 has s k = eqb (s / 2 ^ k % 2) 1

@@ -2,13 +2,16 @@
 // widened on its way in.
 ghost use mathlib.Core.Path.{_≡_};
 ghost use Prim.Native.Nat.{_<_, _≤_};
-ghost use Rattle.sets.specs.Set.{has, common, union, minus, with, without, numbered, switched};
+ghost use Rattle.sets.specs.Set.{setWidth, has, common, union, minus, with, without, numbered, switched};
+
+// The members of a set are below this.
+const WIDTH: u16 = 16;
 
 // Whether k is in the set.
 pub fn has(s: u16, k: u16) -> bool
     ensures { λ r. ⌜ r ≡ has s k ⌝ }
 {
-    if 16 <= k {
+    if WIDTH <= k {
         return false;
     }
     (s >> k) % 2 == 1
@@ -36,14 +39,14 @@ pub fn minus(a: u16, b: u16) -> u16
 }
 
 fn with(s: u16, k: u16) -> u16
-    requires { ⌜ k < 16 ⌝ }
+    requires { ⌜ k < setWidth ⌝ }
     ensures { λ r. ⌜ r ≡ with s k ⌝ }
 {
     union(s, 1u16 << k)
 }
 
 fn without(s: u16, k: u16) -> u16
-    requires { ⌜ k < 16 ⌝ }
+    requires { ⌜ k < setWidth ⌝ }
     ensures { λ r. ⌜ r ≡ without s k ⌝ }
 {
     minus(s, 1u16 << k)
@@ -61,7 +64,7 @@ pub fn numbered(w: u32, n: u32) -> bool
 
 // The number n of 1 to w switched on or off; any other number changes nothing.
 pub fn switched(w: u32, s: u16, n: u32, on: bool) -> u16
-    requires { ⌜ w ≤ 16 ⌝ }
+    requires { ⌜ w ≤ setWidth ⌝ }
     ensures { λ r. ⌜ r ≡ switched w s n on ⌝ }
 {
     if numbered(w, n) {

@@ -1,46 +1,17 @@
 -- `area::at16` meets its contract: an octet is below 256. Assumes nothing.
-use mathlib.Core.Path.{refl}
-use Prim.Native.Nat.{_+_}
 use native.Mathlib.Omega.{arith}
 use Rattle.area.specs.Area.{at16}
 use borrow.Author.Needs.{needs}
 use Rattle.area.proofs.at16.Statement.{statement}
 use Rattle.area.proofs.at16.Tie as tie
 
-shared-slice-read-high : tie.Need-shared-slice-read-high
-shared-slice-read-high c = search needs
-
-cast-high : tie.Need-cast-high
-cast-high c = omega (arith, c .shared-slice-known .given (c .before .args .at))
-
-add-low : tie.Need-add-low
-add-low c = search needs
-
-shared-slice-read-low : tie.Need-shared-slice-read-low
-shared-slice-read-low c = search needs
-
-cast-low : tie.Need-cast-low
-cast-low c = omega (arith, c .shared-slice-known2 .given (c .before .before .args .at + 1))
-
-mul-result : tie.Need-mul-result
-mul-result c = omega (arith, c .before .shared-slice-known .given (c .before .before .args .at))
-
-add-result : tie.Need-add-result
-add-result c = omega (arith, c .before .shared-slice-known .given (c .before .before .args .at), c .shared-slice-known2 .given (c .before .before .args .at + 1))
-
 returns : tie.Need-returns
 unfolding at16
-returns c = (refl, omega (arith, c .before .shared-slice-known .given (c .before .before .args .at), c .shared-slice-known2 .given (c .before .before .args .at + 1)))
+returns c = (simp (c .wide2 .ensures .0, c .before .before .wide .ensures .0), omega arith)
 
 pub at16-spec : {M : Type 1} → statement M
 at16-spec =
     tie.close
     (tie.spec
-    shared-slice-read-high
-    cast-high
-    add-low
-    shared-slice-read-low
-    cast-low
-    mul-result
-    add-result
-    returns)
+    (λ c. search needs) (λ c κs. search needs) (λ c. search needs) (λ c. search needs) (λ c. search needs)
+    (λ c κs. search needs) (λ c. search needs) returns)

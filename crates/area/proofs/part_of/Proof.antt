@@ -11,38 +11,11 @@ use borrow.Author.Needs.{needs}
 use Rattle.area.proofs.part_of.Statement.{statement}
 use Rattle.area.proofs.part_of.Tie as tie
 
-cast-start : tie.Need-cast-start
-cast-start c = search needs
-
-cast-len : tie.Need-cast-len
-cast-len c = search needs
-
-sub-result : tie.Need-sub-result
-sub-result c = search needs
-
-part-result-start : tie.Need-part-result-start
-part-result-start c = search needs
-
-part-result-end : tie.Need-part-result-end
-part-result-end c = search needs
-
 returns : tie.Need-returns
 unfolding part
 returns c =
     let s = c .before .before .before .before .args .s in
     sym (ap (take (s .len)) (drop-of-length-le (c .before .before .before .before .args .area .now) {i = s .start} (omega arith)) ∙ take-nil (s .len))
-
-sub-rest : tie.Need-sub-rest
-sub-rest c = search needs
-
-sub-result-2 : tie.Need-sub-result-2
-sub-result-2 c = search needs
-
-part-result-start-2 : tie.Need-part-result-start-2
-part-result-start-2 c = search needs
-
-part-result-end-2 : tie.Need-part-result-end-2
-part-result-end-2 c = search needs
 
 returns-2 : tie.Need-returns-2
 unfolding part
@@ -53,18 +26,6 @@ returns-2 c =
     let less : length rest ≤ s .len = omega (arith, length-drop (s .start) (c .before .before .before .before .before .args .area .now)) in
     take-all _ rest fits ∙ sym (take-all _ rest less)
 
-add-end : tie.Need-add-end
-add-end c = search needs
-
-sub-result-3 : tie.Need-sub-result-3
-sub-result-3 c = search needs
-
-part-result-start-3 : tie.Need-part-result-start-3
-part-result-start-3 c = search needs
-
-part-result-end-3 : tie.Need-part-result-end-3
-part-result-end-3 c = search needs
-
 returns-3 : tie.Need-returns-3
 unfolding part
 returns-3 c = simp add-sub-cancel-left
@@ -73,19 +34,6 @@ pub part-of-spec : {M : Type 1} → statement M
 part-of-spec =
     tie.close
     (tie.spec
-    cast-start
-    cast-len
-    sub-result
-    part-result-start
-    part-result-end
-    returns
-    sub-rest
-    sub-result-2
-    part-result-start-2
-    part-result-end-2
-    returns-2
-    add-end
-    sub-result-3
-    part-result-start-3
-    part-result-end-3
-    returns-3)
+    (λ c. search needs) (λ c. search needs) (λ c. search needs) (λ c. search needs) (λ c. search needs) returns
+    (λ c. search needs) (λ c. search needs) (λ c. search needs) (λ c. search needs) returns-2
+    (λ c. search needs) (λ c. search needs) (λ c. search needs) (λ c. search needs) returns-3)

@@ -9,15 +9,9 @@ returns : tie.Need-returns
 unfolding passOther
 returns c = search branch
 
-refuse-requires : tie.Need-refuse-requires
-refuse-requires c κs = search needs
-
 returns-2 : tie.Need-returns-2
 unfolding passOther
 returns-2 c = search branch
-
-refuse-requires-2 : tie.Need-refuse-requires-2
-refuse-requires-2 c κs = search needs
 
 returns-3 : tie.Need-returns-3
 unfolding passOther
@@ -29,4 +23,4 @@ returns-4 c = search branch
 
 pub pass-other-spec : {M : Type 1} → statement M
 pass-other-spec =
-    tie.close (tie.spec returns refuse-requires returns-2 refuse-requires-2 returns-3 returns-4)
+    tie.close (tie.spec returns (λ c κs. search needs) returns-2 (λ c κs. search needs) returns-3 returns-4)

@@ -30,15 +30,9 @@ next c =
     let t = c .before .before .tlv-at .ensures in
     rw t (onward _ _ _ _ (c .before .before .before .loop-test .taken) (c .before .before .before .before .loop .inv) (rw t at (c .if2 .left)))
 
-refuse-requires : tie.Need-refuse-requires Inv-loop μ-loop
-refuse-requires c κs = search needs
-
 returns : tie.Need-returns Inv-loop μ-loop
 unfolding readArea pick
 returns c = search branch
-
-refuse-requires-2 : tie.Need-refuse-requires-2 Inv-loop μ-loop
-refuse-requires-2 c κs = search needs
 
 loop-holds : tie.Need-loop-holds Inv-loop μ-loop
 loop-holds c =
@@ -48,9 +42,6 @@ loop-holds c =
       enough = omega arith;
       same = rw (c .refuse2 .ensures);
     }
-
-tlv-at-requires : tie.Need-tlv-at-requires Inv-loop μ-loop
-tlv-at-requires c κs = omega arith
 
 returns-2 : tie.Need-returns-2 Inv-loop μ-loop
 unfolding readArea pick
@@ -89,14 +80,9 @@ pub read-area-spec : {M : Type 1} → statement M
 read-area-spec =
     tie.close
     (tie.spec
-    Inv-loop
-    μ-loop
-    refuse-requires
-    returns
-    refuse-requires-2
-    loop-holds
-    tlv-at-requires
-    returns-2
+    Inv-loop μ-loop (λ c κs. search needs) returns
+    (λ c κs. search needs) loop-holds
+    (λ c κs. omega arith) returns-2
     add-at
     add-at16
     at16-requires

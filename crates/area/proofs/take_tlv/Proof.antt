@@ -5,15 +5,9 @@ use borrow.Author.Needs.{needs}
 use Rattle.area.proofs.take_tlv.Statement.{statement}
 use Rattle.area.proofs.take_tlv.Tie as tie
 
-refuse-requires : tie.Need-refuse-requires
-refuse-requires c κs = search needs
-
 returns : tie.Need-returns
 unfolding takeTlv
 returns c = search (branch, c .before .if1 .taken)
-
-refuse-requires-2 : tie.Need-refuse-requires-2
-refuse-requires-2 c κs = search needs
 
 returns-2 : tie.Need-returns-2
 unfolding takeTlv
@@ -24,4 +18,4 @@ unfolding takeTlv
 returns-3 c = search (branch, c .before .if1 .left, c .if2 .left)
 
 pub take-tlv-spec : {M : Type 1} → statement M
-take-tlv-spec = tie.close (tie.spec refuse-requires returns refuse-requires-2 returns-2 returns-3)
+take-tlv-spec = tie.close (tie.spec (λ c κs. search needs) returns (λ c κs. search needs) returns-2 returns-3)

@@ -6,18 +6,6 @@ use borrow.Author.Needs.{needs}
 use Rattle.kinds.proofs.disabled_at.Statement.{statement}
 use Rattle.kinds.proofs.disabled_at.Tie as tie
 
-cast-has : tie.Need-cast-has
-cast-has c = search needs
-
-has-requires : tie.Need-has-requires
-has-requires c κs = search needs
-
-mul-result : tie.Need-mul-result
-mul-result c = search needs
-
-array-read-result : tie.Need-array-read-result
-array-read-result c = search needs
-
 returns : tie.Need-returns
 returns c = controls-at (c .before .before .args .i) (c .before .before .pre) ∙ sym (taken _ _ (sym (c .before .has .ensures) ∙ c .if1 .taken))
 
@@ -26,4 +14,4 @@ returns-2 c = sym (left _ _ (sym (c .before .has .ensures) ∙ c .if1 .left))
 
 pub disabled-at-spec : {M : Type 1} → statement M
 disabled-at-spec =
-    tie.close (tie.spec cast-has has-requires mul-result array-read-result returns returns-2)
+    tie.close (tie.spec (λ c. search needs) (λ c κs. search needs) (λ c. search needs) (λ c. search needs) returns returns-2)

@@ -18,18 +18,6 @@ loop-holds : tie.Need-loop-holds Inv-loop μ-loop
 unfolding gather
 loop-holds c = (omega arith, refl)
 
-opened-at-requires : tie.Need-opened-at-requires Inv-loop μ-loop
-opened-at-requires c κs = omega arith
-
-union-requires : tie.Need-union-requires Inv-loop μ-loop
-union-requires c κs = search needs
-
-add-i : tie.Need-add-i Inv-loop μ-loop
-add-i c = omega arith
-
-loop-less : tie.Need-loop-less Inv-loop μ-loop
-loop-less c = omega arith
-
 loop-again : tie.Need-loop-again Inv-loop μ-loop
 loop-again c =
     (omega arith, gather-next _ _ _ (c .before .before .before .loop .inv .1) (c .before .opened-at .ensures) (c .union .ensures))
@@ -45,12 +33,6 @@ pub opened-spec : {M : Type 1} → statement M
 opened-spec =
     tie.close
     (tie.spec
-    Inv-loop
-    μ-loop
-    loop-holds
-    opened-at-requires
-    union-requires
-    add-i
-    loop-less
-    loop-again
+    Inv-loop μ-loop loop-holds
+    (λ c κs. omega arith) (λ c κs. search needs) (λ c. omega arith) (λ c. omega arith) loop-again
     returns)

@@ -5,18 +5,6 @@ use borrow.Author.Needs.{needs}
 use Rattle.kinds.proofs.opened_at.Statement.{statement}
 use Rattle.kinds.proofs.opened_at.Tie as tie
 
-cast-has : tie.Need-cast-has
-cast-has c = search needs
-
-has-requires : tie.Need-has-requires
-has-requires c κs = search needs
-
-add-t6 : tie.Need-add-t6
-add-t6 c = search needs
-
-opens-requires : tie.Need-opens-requires
-opens-requires c κs = search needs
-
 returns : tie.Need-returns
 returns c = c .opens .ensures ∙ sym (taken _ _ (sym (c .before .before .has .ensures) ∙ c .before .if1 .taken))
 
@@ -24,4 +12,4 @@ returns-2 : tie.Need-returns-2
 returns-2 c = sym (left _ _ (sym (c .before .has .ensures) ∙ c .if1 .left))
 
 pub opened-at-spec : {M : Type 1} → statement M
-opened-at-spec = tie.close (tie.spec cast-has has-requires add-t6 opens-requires returns returns-2)
+opened-at-spec = tie.close (tie.spec (λ c. search needs) (λ c κs. search needs) (λ c. search needs) (λ c κs. search needs) returns returns-2)

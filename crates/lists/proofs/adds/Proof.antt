@@ -6,21 +6,9 @@ use borrow.Author.Needs.{needs}
 use Rattle.lists.proofs.adds.Statement.{statement}
 use Rattle.lists.proofs.adds.Tie as tie
 
-returns : tie.Need-returns
-returns c = search needs
-
-mul-result : tie.Need-mul-result
-mul-result c = search needs
-
-add-result : tie.Need-add-result
-add-result c = search needs
-
-shared-slice-read-result : tie.Need-shared-slice-read-result
-shared-slice-read-result c = search needs
-
 returns-2 : tie.Need-returns-2
 unfolding eAt
 returns-2 c = sym (ap (λ (b : Bool). b || eAt (c .before .before .args .value .now) (c .before .before .args .i)) (c .before .if1 .left))
 
 pub adds-spec : {M : Type 1} → statement M
-adds-spec = tie.close (tie.spec returns mul-result add-result shared-slice-read-result returns-2)
+adds-spec = tie.close (tie.spec (λ c. search needs) (λ c. search needs) (λ c. search needs) (λ c. search needs) returns-2)

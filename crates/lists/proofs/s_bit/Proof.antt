@@ -19,12 +19,9 @@ none (x ∷ v) h = absurd (omega arith)
 returns : tie.Need-returns
 returns c = none (c .before .args .value .now) (c .if1 .taken)
 
-shared-slice-read-result : tie.Need-shared-slice-read-result
-shared-slice-read-result c = search needs
-
 returns-2 : tie.Need-returns-2
 unfolding sBit
 returns-2 c = refl
 
 pub s-bit-spec : {M : Type 1} → statement M
-s-bit-spec = tie.close (tie.spec returns shared-slice-read-result returns-2)
+s-bit-spec = tie.close (tie.spec returns (λ c. search needs) returns-2)

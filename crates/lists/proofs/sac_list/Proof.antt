@@ -20,27 +20,9 @@ returns : tie.Need-returns Inv-loop μ-loop
 unfolding sacList sacAfter
 returns c = let none : length (now (c .before .before .args .value)) - 1 ≡ 0 = omega arith in rw none
 
-sub-n : tie.Need-sub-n Inv-loop μ-loop
-sub-n c = omega arith
-
 loop-holds : tie.Need-loop-holds Inv-loop μ-loop
 unfolding sacAfter
 loop-holds c = search needs
-
-add-sac-element : tie.Need-add-sac-element Inv-loop μ-loop
-add-sac-element c = omega arith
-
-shared-slice-read-sac-element : tie.Need-shared-slice-read-sac-element Inv-loop μ-loop
-shared-slice-read-sac-element c = omega arith
-
-sac-element-requires : tie.Need-sac-element-requires Inv-loop μ-loop
-sac-element-requires c κs = search needs
-
-add-i : tie.Need-add-i Inv-loop μ-loop
-add-i c = omega arith
-
-loop-less : tie.Need-loop-less Inv-loop μ-loop
-loop-less c = omega arith
 
 loop-again : tie.Need-loop-again Inv-loop μ-loop
 unfolding sacAfter
@@ -56,15 +38,7 @@ pub sac-list-spec : {M : Type 1} → statement M
 sac-list-spec =
     tie.close
     (tie.spec
-    Inv-loop
-    μ-loop
-    returns
-    sub-n
-    loop-holds
-    add-sac-element
-    shared-slice-read-sac-element
-    sac-element-requires
-    add-i
-    loop-less
-    loop-again
+    Inv-loop μ-loop returns
+    (λ c. omega arith) loop-holds
+    (λ c. omega arith) (λ c. omega arith) (λ c κs. search needs) (λ c. omega arith) (λ c. omega arith) loop-again
     returns-2)

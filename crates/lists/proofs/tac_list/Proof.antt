@@ -23,28 +23,13 @@ Inv-elements value opening listed n set₀ i₀ set i = (i ≤ n) × (set ≡ af
 abbrev μ-elements : tie.MeasureT-elements
 μ-elements value opening listed n set₀ i₀ set i = n - i
 
-element-count-requires : tie.Need-element-count-requires Inv-loop μ-loop Inv-elements μ-elements
-element-count-requires c κs = search needs
-
 elements-holds : tie.Need-elements-holds Inv-loop μ-loop Inv-elements μ-elements
 unfolding after
 elements-holds c = search needs
 
-id-at-requires : tie.Need-id-at-requires Inv-loop μ-loop Inv-elements μ-elements
-id-at-requires c κs = omega arith
-
 loop-holds : tie.Need-loop-holds Inv-loop μ-loop Inv-elements μ-elements
 unfolding stood
 loop-holds c = search needs
-
-id-at-requires-2 : tie.Need-id-at-requires-2 Inv-loop μ-loop Inv-elements μ-elements
-id-at-requires-2 c κs = omega arith
-
-add-i : tie.Need-add-i Inv-loop μ-loop Inv-elements μ-elements
-add-i c = omega arith
-
-elements-less : tie.Need-elements-less Inv-loop μ-loop Inv-elements μ-elements
-elements-less c = omega arith
 
 elements-again : tie.Need-elements-again Inv-loop μ-loop Inv-elements μ-elements
 elements-again c =
@@ -54,31 +39,10 @@ elements-again c =
       rw (i .0) (e ∙ repeat _ _ _ _ _ (c .before .before .before .before .id-at .ensures) (c .before .id-at2 .ensures) (c .if1 .taken) (omega arith)),
     )
 
-add-j : tie.Need-add-j Inv-loop μ-loop Inv-elements μ-elements
-add-j c = omega arith
-
-loop-less : tie.Need-loop-less Inv-loop μ-loop Inv-elements μ-elements
-loop-less c = omega arith
-
 loop-again : tie.Need-loop-again Inv-loop μ-loop Inv-elements μ-elements
 loop-again c =
     let i = c .before .before .before .loop .inv in
     (i .0, omega arith, stood-more _ _ _ (λ e. c .if1 .left (c .before .id-at2 .ensures ∙ e)) (i .2))
-
-cast-t12 : tie.Need-cast-t12 Inv-loop μ-loop Inv-elements μ-elements
-cast-t12 c = search needs
-
-adds-requires : tie.Need-adds-requires Inv-loop μ-loop Inv-elements μ-elements
-adds-requires c κs = omega arith
-
-switched-requires : tie.Need-switched-requires Inv-loop μ-loop Inv-elements μ-elements
-switched-requires c κs = search needs
-
-add-i-2 : tie.Need-add-i-2 Inv-loop μ-loop Inv-elements μ-elements
-add-i-2 c = omega arith
-
-elements-less-2 : tie.Need-elements-less-2 Inv-loop μ-loop Inv-elements μ-elements
-elements-less-2 c = omega arith
 
 elements-again-2 : tie.Need-elements-again-2 Inv-loop μ-loop Inv-elements μ-elements
 elements-again-2 c =
@@ -99,25 +63,10 @@ pub tac-list-spec : {M : Type 1} → statement M
 tac-list-spec =
     tie.close
     (tie.spec
-    Inv-loop
-    μ-loop
-    Inv-elements
-    μ-elements
-    element-count-requires
-    elements-holds
-    id-at-requires
-    loop-holds
-    id-at-requires-2
-    add-i
-    elements-less
-    elements-again
-    add-j
-    loop-less
-    loop-again
-    cast-t12
-    adds-requires
-    switched-requires
-    add-i-2
-    elements-less-2
+    Inv-loop μ-loop Inv-elements μ-elements (λ c κs. search needs) elements-holds
+    (λ c κs. omega arith) loop-holds
+    (λ c κs. omega arith) (λ c. omega arith) (λ c. omega arith) elements-again
+    (λ c. omega arith) (λ c. omega arith) loop-again
+    (λ c. search needs) (λ c κs. omega arith) (λ c κs. search needs) (λ c. omega arith) (λ c. omega arith)
     elements-again-2
     returns)

@@ -19,24 +19,12 @@ returns c =
     let none : c .before .before .args .written ≤ 0 = omega arith in
     sym (left _ _ (le-ltb 0 _ none))
 
-enum-told : tie.Need-enum-told
-enum-told c = search needs
-
-enum-known-message : tie.Need-enum-known-message
-enum-known-message c = search needs
-
-write-change-requires : tie.Need-write-change-requires
-write-change-requires c κs = search needs
-
 returns-2 : tie.Need-returns-2
 unfolding roomWith
 returns-2 c =
     let a = c .before .before .before .before .args in
     let some : 0 < a .written = omega arith in
     sym (taken _ _ (lt-ltb 0 _ some) ∙ ap (λ (m : Message). over (octetsOf m) (a .room .now)) (c .enum-told .given .1) ∙ over-fits [] _ (omega arith))
-
-same-length : tie.Need-same-length
-same-length c = search needs
 
 returns-3 : tie.Need-returns-3
 unfolding roomWith
@@ -52,9 +40,5 @@ write-spec =
     tie.close
     (tie.spec
     returns
-    enum-told
-    enum-known-message
-    write-change-requires
-    returns-2
-    same-length
-    returns-3)
+    (λ c. search needs) (λ c. search needs) (λ c κs. search needs) returns-2
+    (λ c. search needs) returns-3)

@@ -16,39 +16,6 @@ use Rattle.message.proofs.write_change.Tie as tie
 returns : tie.Need-returns
 returns c = sym (over-short _ _ (c .if1 .taken))
 
-message-head-requires : tie.Need-message-head-requires
-message-head-requires c κs = search needs
-
-tlv-head-requires : tie.Need-tlv-head-requires
-tlv-head-requires c κs = search needs
-
-one-element-requires : tie.Need-one-element-requires
-one-element-requires c κs = search needs
-
-slice-aggregate-put : tie.Need-slice-aggregate-put
-slice-aggregate-put c = search needs
-
-put-requires : tie.Need-put-requires
-put-requires c κs = search needs
-
-slice-aggregate-put-at : tie.Need-slice-aggregate-put-at
-slice-aggregate-put-at c = search needs
-
-put-at-requires : tie.Need-put-at-requires
-put-at-requires c κs = search needs
-
-add-put-at : tie.Need-add-put-at
-add-put-at c = search needs
-
-slice-aggregate-put-at-2 : tie.Need-slice-aggregate-put-at-2
-slice-aggregate-put-at-2 c = search needs
-
-put-at-requires-2 : tie.Need-put-at-requires-2
-put-at-requires-2 c κs = search needs
-
-same-length : tie.Need-same-length
-same-length c = search needs
-
 returns-2 : tie.Need-returns-2
 returns-2 c =
     let second = c .before .before .before .before .before .before .before in
@@ -70,15 +37,6 @@ write-change-spec =
     tie.close
     (tie.spec
     returns
-    message-head-requires
-    tlv-head-requires
-    one-element-requires
-    slice-aggregate-put
-    put-requires
-    slice-aggregate-put-at
-    put-at-requires
-    add-put-at
-    slice-aggregate-put-at-2
-    put-at-requires-2
-    same-length
-    returns-2)
+    (λ c κs. search needs) (λ c κs. search needs) (λ c κs. search needs) (λ c. search needs) (λ c κs. search needs)
+    (λ c. search needs) (λ c κs. search needs) (λ c. search needs) (λ c. search needs) (λ c κs. search needs)
+    (λ c. search needs) returns-2)

@@ -8,9 +8,6 @@ use borrow.Author.Needs.{needs}
 use Rattle.sets.proofs.switched.Statement.{statement}
 use Rattle.sets.proofs.switched.Tie as tie
 
-numbered-requires : tie.Need-numbered-requires
-numbered-requires c κs = search needs
-
 sub-with : tie.Need-sub-with
 sub-with c = numbered-is _ _ (sym (c .before .before .numbered .ensures) ∙ c .before .if1 .taken) .0
 
@@ -45,8 +42,7 @@ pub switched-spec : {M : Type 1} → statement M
 switched-spec =
     tie.close
     (tie.spec
-    numbered-requires
-    sub-with
+    (λ c κs. search needs) sub-with
     cast-with
     with-requires
     returns

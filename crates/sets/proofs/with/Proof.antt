@@ -1,20 +1,14 @@
 -- `sets::with` meets its contract: `1 << k` is the set of k alone. Assumes nothing.
 use mathlib.Core.Path.{_∙_, ap}
-use Rattle.sets.specs.Set.{with, union}
+use Rattle.sets.specs.Set.{setWidth, with, union}
 use Rattle.sets.proofs.Members.{shl-one}
 use borrow.Author.Needs.{needs}
 use Rattle.sets.proofs.with.Statement.{statement}
 use Rattle.sets.proofs.with.Tie as tie
 
-shl-union : tie.Need-shl-union
-shl-union c = search needs
-
-union-requires : tie.Need-union-requires
-union-requires c κs = search needs
-
 returns : tie.Need-returns
 unfolding with
-returns c = c .union .ensures ∙ ap (union (c .before .args .s)) (shl-one (c .before .args .k) 16 (search needs))
+returns c = c .union .ensures ∙ ap (union (c .before .args .s)) (shl-one (c .before .args .k) setWidth (search needs))
 
 pub with-spec : {M : Type 1} → statement M
-with-spec = tie.close (tie.spec shl-union union-requires returns)
+with-spec = tie.close (tie.spec (λ c. search needs) (λ c κs. search needs) returns)

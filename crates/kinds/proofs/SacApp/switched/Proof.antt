@@ -5,14 +5,8 @@ use borrow.Author.Needs.{needs}
 use Rattle.kinds.proofs.SacApp.switched.Statement.{statement}
 use Rattle.kinds.proofs.SacApp.switched.Tie as tie
 
-switched-requires : tie.Need-switched-requires
-switched-requires c κs = search needs
-
 cast-result : tie.Need-cast-result
 cast-result c = rw (c .switched .ensures) (record { fits = switched-lt 4 _ _ _ 8 (omega arith) (search needs) })
 
-returns : tie.Need-returns
-returns c = search needs
-
 pub switched-spec : {M : Type 1} → statement M
-switched-spec = tie.close (tie.spec switched-requires cast-result returns)
+switched-spec = tie.close (tie.spec (λ c κs. search needs) cast-result (λ c. search needs))

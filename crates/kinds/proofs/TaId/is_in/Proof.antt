@@ -10,17 +10,11 @@ use borrow.Author.Needs.{needs}
 use Rattle.kinds.proofs.TaId.is_in.Statement.{statement}
 use Rattle.kinds.proofs.TaId.is_in.Tie as tie
 
-is-known-requires : tie.Need-is-known-requires
-is-known-requires c κs = search needs
-
 sub-has : tie.Need-sub-has
 sub-has c = numbered-is _ _ (sym (c .before .is-known .ensures) ∙ c .if1 .taken) .0
 
 cast-has : tie.Need-cast-has
 cast-has c = omega (arith, numbered-is _ _ (sym (c .before .is-known .ensures) ∙ c .if1 .taken))
-
-has-requires : tie.Need-has-requires
-has-requires c κs = search needs
 
 returns : tie.Need-returns
 unfolding isIn
@@ -31,4 +25,4 @@ unfolding isIn
 returns-2 c = sym (ap (λ (b : Bool). b && has (c .before .before .args .applications) (c .before .before .args .self .0 - 1)) (sym (c .before .is-known .ensures) ∙ c .if1 .left))
 
 pub is-in-spec : {M : Type 1} → statement M
-is-in-spec = tie.close (tie.spec is-known-requires sub-has cast-has has-requires returns returns-2)
+is-in-spec = tie.close (tie.spec (λ c κs. search needs) sub-has cast-has (λ c κs. search needs) returns returns-2)

@@ -11,21 +11,12 @@ use borrow.Author.Needs.{needs}
 use Rattle.kinds.proofs.TaId.opens.Statement.{statement}
 use Rattle.kinds.proofs.TaId.opens.Tie as tie
 
-is-known-requires : tie.Need-is-known-requires
-is-known-requires c κs = search needs
-
 returns : tie.Need-returns
 unfolding opens
 returns c = sym (taken _ _ (sym (c .before .before .is-known .ensures) ∙ c .before .if1 .taken) ∙ taken _ _ (eq-eqb _ _ (c .if2 .taken)))
 
 sub-i : tie.Need-sub-i
 sub-i c = numbered-is _ _ (sym (c .before .before .is-known .ensures) ∙ c .before .if1 .taken) .0
-
-cast-i : tie.Need-cast-i
-cast-i c = search needs
-
-mul-result : tie.Need-mul-result
-mul-result c = search needs
 
 array-read-result : tie.Need-array-read-result
 array-read-result c = omega (arith, numbered-is _ _ (sym (c .before .before .is-known .ensures) ∙ c .before .if1 .taken))
@@ -42,11 +33,8 @@ pub opens-spec : {M : Type 1} → statement M
 opens-spec =
     tie.close
     (tie.spec
-    is-known-requires
-    returns
+    (λ c κs. search needs) returns
     sub-i
-    cast-i
-    mul-result
-    array-read-result
+    (λ c. search needs) (λ c. search needs) array-read-result
     returns-2
     returns-3)
