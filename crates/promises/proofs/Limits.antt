@@ -189,7 +189,6 @@ module _ (row : List Session) (e : RowEvent) (f : FindsCommon row e) where
 pub limits-decide : LimitsDecide
 limits-decide row e f = decided row e f (atLimit (open-one row e f) (belowLimit (e .limits) row)) refl
 
-
 -- ---- none is set
 -- the session that is not counted leaves a place
 count-lt : (row : List Session) (at n : ℕ) → at < length row → uses (sessionAt row at) n ≡ false → count row n < length row

@@ -16,7 +16,9 @@ impl Limits {
     pub fn none() -> Limits
         ensures { λ r. ⌜ r ≡ noLimits ⌝ }
     {
-        Limits { each: [Self::HIGHEST; APPLICATIONS] }
+        Limits {
+            each: [Self::HIGHEST; APPLICATIONS],
+        }
     }
 
     // The limit of one application set.

@@ -177,7 +177,7 @@ module _ (s : Session) (e m : ℕ) (h : Within (s .enabled) e) (r : Sound s) (r�
       (λ _. refuses s e m h ev (found .refusal)))
       (λ _. refuses s e m h ev wrongState))
 
--- ---- Capability message
+  -- ---- Capability message
   capability-view : (a : List ℕ) → View s (withOtherEnabled s e m) (Capability a) (onCapability s a) (onCapability (withOtherEnabled s e m) a)
   unfolding onCapability afterCapability flagsAfter listAfter
   capability-view a =
@@ -200,7 +200,7 @@ module _ (s : Session) (e m : ℕ) (h : Within (s .enabled) e) (r : Sound s) (r�
       (λ _. refuses s e m h ev (found .refusal)))
       (λ _. refuses s e m h ev wrongState))
 
--- ---- Mismatch notification
+  -- ---- Mismatch notification
   mismatch-view : View s (withOtherEnabled s e m) Mismatch (onMismatch s) (onMismatch (withOtherEnabled s e m))
   unfolding onMismatch
   mismatch-view =
@@ -212,7 +212,7 @@ module _ (s : Session) (e m : ℕ) (h : Within (s .enabled) e) (r : Sound s) (r�
       })
       (λ _. refuses s e m h Mismatch wrongState))
 
--- ---- Connection closed
+  -- ---- Connection closed
   closed-view : View s (withOtherEnabled s e m) Closed (onClosed s) (onClosed (withOtherEnabled s e m))
   unfolding onClosed has
   closed-view =
@@ -232,12 +232,12 @@ module _ (s : Session) (e m : ℕ) (h : Within (s .enabled) e) (r : Sound s) (r�
       }))
       (λ _. refuses s e m h Closed wrongState))
 
--- ---- an event by no number
+  -- ---- an event by no number
   unknown-view : View s (withOtherEnabled s e m) Unknown (onUnknown s) (onUnknown (withOtherEnabled s e m))
   unfolding onUnknown
   unknown-view = both-checked s e m h Unknown r r′ _ _ (refuses s e m h Unknown wrongState)
 
--- ---- Hello: the Hello is recorded, in a state that is Open exactly where it was
+  -- ---- Hello: the Hello is recorded, in a state that is Open exactly where it was
   greets : (number state : ℕ) → Sound (greeted s state number) → (isOpen s ≡ false → eqb state stateOpen ≡ false) → MakesStill s (Hello number) (greeted s state number)
   unfolding has
   greets number state g f =

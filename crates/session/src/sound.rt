@@ -22,7 +22,8 @@ impl Session {
         (self.state <= Self::GONE)
             & ((self.flags < Self::FLAGS_END)
                 & ((self.enabled < Self::APPLICATIONS_END)
-                    & ((self.listed < Self::APPLICATIONS_END) & ((self.protects < Self::KINDS_END) & (self.disabled < Self::APPS_END)))))
+                    & ((self.listed < Self::APPLICATIONS_END)
+                        & ((self.protects < Self::KINDS_END) & (self.disabled < Self::APPS_END)))))
     }
 
     // In force only in Open with TAC used and a common application.

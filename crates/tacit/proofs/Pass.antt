@@ -23,8 +23,8 @@ use denote.Triple.Spec.{tripleOf}
 use denote.Triple.Clauses.{lasts}
 use Rattle.session.specs.declared.Session.{Session}
 use Rattle.row.specs.declared.Tally.{Tally}
-use Rattle.row.specs.Tally as S
-use Rattle.row.specs.Tally.{tallied}
+use Rattle.row.specs.Counting as S
+use Rattle.row.specs.Counting.{tallied}
 use Rattle.row.proofs.Walk.{Lent, tally-data, low, Good, answered}
 use Rattle.row.proofs.tally_of as pass
 use Rattle.row.proofs.tally_of.Symbol.{name as #pass}
@@ -39,9 +39,9 @@ module _ {M : Type 1} (𝓤 : URA M) (H : Heap 𝓤) (A : Atoms 𝓤) (mem : Mem
 module _ {M : Type 1} {𝓤 : URA M} {H : Heap 𝓤} {A : Atoms 𝓤} {K : Type 0} {W : Given 𝓤 H A} {Γ : List (Item 𝓤)} where
   pub passes : K → (mem : Memory → SProp 𝓤) (run : Routine → Fun 𝓤) (κ : Lft) (q : Share) (x : RefT (List Session)) {C : Calls 𝓤 H} {Λ : Loops 𝓤 H} {E : Env 𝓤 H} {xs : List Operand} {d : Place} {rest : Body} {p : Post 𝓤 H}
       → FmC 𝓤 H (W .laws) C → Triple 𝓤 (C #pass) (Passing 𝓤 H A mem run) → Opds K W (raw (Passing 𝓤 H A mem run .pre (to-pass 𝓤 H A mem run κ q x)) ∷ Γ) E xs (sliceVal (x .ptr) (length (x .now)) ∷ [])
-      → ((t : Tally) → t ≡ tallied S.nothing (x .now) → Good tally-data t → Seq K W (‵ (flft κ q) ∷ Γ) (lands C Λ E d (low tally-data t) rest p)) → Seq K W (‵ (flft κ q) ∷ ‵ (Lent κ x) ∷ Γ) (runs C Λ E (seq (call #pass xs d) rest) p)
+      → ((t : Tally) → t ≡ tallied S.emptyTally (x .now) → Good tally-data t → Seq K W (‵ (flft κ q) ∷ Γ) (lands C Λ E d (low tally-data t) rest p)) → Seq K W (‵ (flft κ q) ∷ ‵ (Lent κ x) ∷ Γ) (runs C Λ E (seq (call #pass xs d) rest) p)
   passes t mem run κ q x fm known os k =
       use2 W (raw (Passing 𝓤 H A mem run .pre (to-pass 𝓤 H A mem run κ q x)))
       (qed W (‵ (flft κ q) ∷ ‵ (Lent κ x) ∷ []) ∵ nothing ! $ move ! (2 ∷ 0 ∷ []) $ fjoin ! $ nothing ! $ move ! (2 ∷ 0 ∷ []) $ join ! $ join ! $ frame ! $ done !) $
       calls-at t fm (Passing 𝓤 H A mem run) known (to-pass 𝓤 H A mem run κ q x) os (λ v.
-      answered t tally-data (‵ (flft κ q) ⊛ ‵ ftrue) (lasts pass.ended (κ, tt) (x, tt)) (λ r _. r ≡ tallied S.nothing (x .now)) (id⊢ 𝓤 _) (λ r ws said good. split t $ move t (1 ∷ 2 ∷ []) $ drop t $ drop t $ k r said good))
+      answered t tally-data (‵ (flft κ q) ⊛ ‵ ftrue) (lasts pass.ended (κ, tt) (x, tt)) (λ r _. r ≡ tallied S.emptyTally (x .now)) (id⊢ 𝓤 _) (λ r ws said good. split t $ move t (1 ∷ 2 ∷ []) $ drop t $ drop t $ k r said good))

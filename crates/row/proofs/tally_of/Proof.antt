@@ -44,18 +44,19 @@ use denote.Triple.Clauses.{lasts}
 use denote.Triple.Walked.{says, Stays, stay-none-slice, walkOf, goes-none-slice, ends-at, walked, walk-meets}
 use denote.Exit.{yes}
 use Rattle.session.specs.declared.Session.{Session}
+use Rattle.session.specs.With.{noSession}
 use Rattle.session.proofs.Session as T
 use Rattle.session.proofs.Session.Laws as T′
 use Rattle.row.specs.declared.Tally.{Tally}
-use Rattle.row.specs.Row.{nobody, sessionAt}
-use Rattle.row.specs.Tally as S
-use Rattle.row.specs.Tally.{tallied}
+use Rattle.row.specs.Row.{sessionAt}
+use Rattle.row.specs.Counting as S
+use Rattle.row.specs.Counting.{tallied}
 use Rattle.row.proofs.Locals.{Blocks, env, locals, holding, enters, leaves, keeps-only, held, var, part, sets, refills, lands-in, retold}
 use Rattle.row.proofs.Walk.{Lent, after, session-size, session-data, tally-data, low, Good, fits, makes, answered, asks}
-use Rattle.row.proofs.Tally.nothing as nothing-yet
-use Rattle.row.proofs.Tally.nothing.Symbol as nothing-def
-use Rattle.row.proofs.Tally.nothing.Symbol.{name as #nothing}
-use Rattle.row.proofs.Tally.nothing.Met as nothing-thm
+use Rattle.row.proofs.Tally.empty as empty-yet
+use Rattle.row.proofs.Tally.empty.Symbol as empty-def
+use Rattle.row.proofs.Tally.empty.Symbol.{name as #empty}
+use Rattle.row.proofs.Tally.empty.Met as empty-thm
 use Rattle.row.proofs.Tally.tally as tally
 use Rattle.row.proofs.Tally.tally.Symbol as tally-def
 use Rattle.row.proofs.Tally.tally.Symbol.{name as #tally}
@@ -97,12 +98,12 @@ abbrev %session : ℕ
 %session = %place + 1
 
 -- one more session
-step : (ys : List Session) (i : ℕ) (t : Tally) → i < length ys → tallied t (dropL i ys) ≡ tallied S.nothing ys → (r : Tally) → r ≡ S.tally t (sessionAt ys i) → tallied r (dropL (i + 1) ys) ≡ tallied S.nothing ys
+step : (ys : List Session) (i : ℕ) (t : Tally) → i < length ys → tallied t (dropL i ys) ≡ tallied S.emptyTally ys → (r : Tally) → r ≡ S.tally t (sessionAt ys i) → tallied r (dropL (i + 1) ys) ≡ tallied S.emptyTally ys
 unfolding tallied
-step ys i t l so r e = rw (add-one, e) (sym (ap (tallied t) (drop-cons ys i nobody l)) ∙ so)
+step ys i t l so r e = rw (add-one, e) (sym (ap (tallied t) (drop-cons ys i noSession l)) ∙ so)
 
 -- all of them
-last : (ys : List Session) (i : ℕ) (t : Tally) → i ≡ length ys → tallied t (dropL i ys) ≡ tallied S.nothing ys → t ≡ tallied S.nothing ys
+last : (ys : List Session) (i : ℕ) (t : Tally) → i ≡ length ys → tallied t (dropL i ys) ≡ tallied S.emptyTally ys → t ≡ tallied S.emptyTally ys
 unfolding tallied
 last ys i t e so = sym (ap (tallied t) (ap (λ (k : ℕ). dropL k ys) e ∙ drop-length ys)) ∙ so
 
@@ -111,11 +112,11 @@ module _ {M : Type 1} (𝓤 : URA M) (H : Heap 𝓤) (A : Atoms 𝓤) (mem : Mem
   Turn = tripleOf 𝓤 H A tally.signature (tally.spec 𝓤 H A mem run)
 
   abbrev Start : Contract 𝓤
-  Start = tripleOf 𝓤 H A nothing-yet.signature (nothing-yet.spec 𝓤 H A mem run)
+  Start = tripleOf 𝓤 H A empty-yet.signature (empty-yet.spec 𝓤 H A mem run)
 
   -- the two functions that are called meet their contracts
   abbrev Known : Tables 𝓤 H → Type 1
-  Known 𝓣 = Triple 𝓤 (𝓣 .C #nothing) Start × Triple 𝓤 (𝓣 .C #tally) Turn
+  Known 𝓣 = Triple 𝓤 (𝓣 .C #empty) Start × Triple 𝓤 (𝓣 .C #tally) Turn
 
 module _ {M : Type 1} (𝓤 : URA M) (H : Heap 𝓤) (A : Atoms 𝓤) (W : Given 𝓤 H A) (mem : Memory → SProp 𝓤) (run : Routine → Fun 𝓤) (κ : Lft) (q : Share) (b o : ℕ) (γ : GName) (ys : List Session) (gn : Room T.the-row (length ys)) where
   abbrev row-ref : RefT (List Session)
@@ -138,7 +139,7 @@ module _ {M : Type 1} (𝓤 : URA M) (H : Heap 𝓤) (A : Atoms 𝓤) (W : Given
   abbrev Shared : Fml
   Shared = fshr-bor κ (λ s. arr-parts (shares T.the-row) (length ys) .part s ys b o)
 
-  exits : (r : Tally) → Good tally-data r → r ≡ tallied S.nothing ys → ent 𝓤 (⋆ 𝓤 H A (‵ (flft κ q) ∷ ‵ Row ∷ [])) (Post (low tally-data r))
+  exits : (r : Tally) → Good tally-data r → r ≡ tallied S.emptyTally ys → ent 𝓤 (⋆ 𝓤 H A (‵ (flft κ q) ∷ ‵ Row ∷ [])) (Post (low tally-data r))
   exits r good is =
       qed W (‵ (flft κ q) ∷ ‵ Row ∷ []) ∵ suffices ! _ (ends-at 𝓤 H A f.ended stayed (f.clauses 𝓤 H A mem run) W y (low tally-data r) r (tt, tt) (tt, tt)) $ says ! is $
       nothing ! $ move ! (1 ∷ 0 ∷ []) $ join ! $ frame ! $ nothing ! $ move ! (1 ∷ 0 ∷ []) $ fjoin ! $ frame ! $ makes ! tally-data r good $ done !
@@ -151,7 +152,7 @@ module _ {M : Type 1} (𝓤 : URA M) (H : Heap 𝓤) (A : Atoms 𝓤) (W : Given
 
   -- where the loop stands: at i, with the tally of those before it
   abbrev Upto : Type 0
-  Upto = (i : ℕ) × ((t : Tally) × ((i ≤ length ys) × (Good tally-data t × (tallied t (dropL i ys) ≡ tallied S.nothing ys))))
+  Upto = (i : ℕ) × ((t : Tally) × ((i ≤ length ys) × (Good tally-data t × (tallied t (dropL i ys) ≡ tallied S.emptyTally ys))))
 
   abbrev Nearer : Upto → Upto → Type 0
   Nearer j i = length ys - j .0 < length ys - i .0
@@ -191,9 +192,9 @@ module _ {M : Type 1} (𝓤 : URA M) (H : Heap 𝓤) (A : Atoms 𝓤) (W : Given
         retold ! %place (vptr b) (sym (place-is session-size o i)) refl $
         -- element i is copied out
         looks-slice ! tt T.the-row (Is T.the-row) (shows 𝓤 H A T.the-row) (LL.vals T.the-type T′.the-laws) (LL.tells T.the-type T′.the-laws) (LL.copy T.the-type T′.the-copy 𝓤 H A W) ys b o (λ q′.
-        elem-out ! T.the-row (Is T.the-row) (shows 𝓤 H A T.the-row) (LL.vals T.the-type T′.the-laws) (LL.tells T.the-type T′.the-laws) q′ ys i nobody b o (within less) (λ is.
+        elem-out ! T.the-row (Is T.the-row) (shows 𝓤 H A T.the-row) (LL.vals T.the-type T′.the-laws) (LL.tells T.the-type T′.the-laws) q′ ys i noSession b o (within less) (λ is.
         sets ! %session (of-opd ! (load ! (from ! (hop ! (held ! %place refl) (stop !))) (look-raw ! 0 refl))) refl (fits session-data W (sessionAt ys i) is .0) $
-        elem-back ! T.the-row q′ ys i nobody (mach i ∷ []) b o (within less) $ shuts-slice ! tt T.the-row q′ ys b o $ move ! (1 ∷ 0 ∷ []) $
+        elem-back ! T.the-row q′ ys i noSession (mach i ∷ []) b o (within less) $ shuts-slice ! tt T.the-row q′ ys b o $ move ! (1 ∷ 0 ∷ []) $
         -- and counted
         asks ! (fmOf 𝓤 H (W .laws) 𝓣) (Turn 𝓤 H A mem run) (known .1) (to-turn t i) _ refl (qed W [] ∵ nothing ! $ makes ! session-data (sessionAt ys i) is $ fjoin ! $ makes ! tally-data t t-is $ fjoin ! $ done !)
         (and-then ! (var ! %tally refl) (and-then ! (var ! %session refl) (no-more !))) (λ v.
@@ -227,7 +228,7 @@ module _ {M : Type 1} (𝓤 : URA M) (H : Heap 𝓤) (A : Atoms 𝓤) (W : Given
     starts : Sq W (With []) (runs C Λ En mir.t-1 (atRet En Post))
     starts =
         asks ! (fmOf 𝓤 H (W .laws) 𝓣) (Start 𝓤 H A mem run) (known .0) ((tt, tt, tt, tt, tt), tt) _ refl (id⊢ 𝓤 _) (no-more !) (λ v.
-        answered ! tally-data (‵ ftrue) (lasts nothing-yet.ended tt tt) (λ r _. r ≡ S.nothing) (id⊢ 𝓤 _) (λ r ws e good. drop ! $ drop ! $
+        answered ! tally-data (‵ ftrue) (lasts empty-yet.ended tt tt) (λ r _. r ≡ S.emptyTally) (id⊢ 𝓤 _) (λ r ws e good. drop ! $ drop ! $
         lands-in ! %tally refl (fits tally-data W r good .0) $
         sets ! %k (of-opd ! (lit ! tt)) refl (tt, record { fits = lit< tt }) $
         first ! $ blocks ! $ loops ! 𝓣 Nearer Nearer-wf At turns (0, (r, (zero-le, (good, ap (λ (t : Tally). tallied t ys) e))))))
@@ -253,6 +254,6 @@ tally-of-spec 𝓤 H 𝓜 𝓖 𝓡 =
     entered 𝓤 H (tripleOf 𝓤 H (𝓖 .A) f.signature (f.spec 𝓤 H (𝓖 .A) (𝓜 .mem) (𝓡 .run)))
     (tables 𝓤 H 𝓜 𝓡 code.env .C) (tables 𝓤 H 𝓜 𝓡 code.env .Λ) #tally-of code.function (code.unfolded 𝓤 H 𝓜 𝓡)
     (tally-of-meets 𝓤 H (𝓖 .A) (givenOf 𝓤 H 𝓜 𝓖) (𝓜 .mem) (𝓡 .run) (tablesOf 𝓤 H 𝓜 (tables 𝓤 H 𝓜 𝓡 code.env)) (
-      cited 𝓤 H (Start 𝓤 H (𝓖 .A) (𝓜 .mem) (𝓡 .run)) 𝓜 𝓡 code.env #nothing nothing-def.routine code.calls-row·Tally·nothing (nothing-thm.met 𝓤 H 𝓜 𝓖 𝓡),
+      cited 𝓤 H (Start 𝓤 H (𝓖 .A) (𝓜 .mem) (𝓡 .run)) 𝓜 𝓡 code.env #empty empty-def.routine code.calls-row·Tally·empty (empty-thm.met 𝓤 H 𝓜 𝓖 𝓡),
       cited 𝓤 H (Turn 𝓤 H (𝓖 .A) (𝓜 .mem) (𝓡 .run)) 𝓜 𝓡 code.env #tally tally-def.routine code.calls-row·Tally·tally (tally-thm.met 𝓤 H 𝓜 𝓖 𝓡),
     ))

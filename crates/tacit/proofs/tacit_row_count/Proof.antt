@@ -40,8 +40,9 @@ use Rattle.session.specs.declared.Session.{Session}
 use Rattle.session.proofs.Session as T
 use Rattle.row.specs.declared.Tally.{Tally}
 use Rattle.row.specs.declared.Count.{Count}
+use Rattle.refusals.specs.Refusals.{outsideRow}
 use Rattle.row.specs.Row.{isRow, notCounted, countOf}
-use Rattle.row.specs.Tally.{countIn}
+use Rattle.row.specs.Counting.{countBy}
 use Rattle.row.proofs.Tallied.{count-in-row, not-counted}
 use Rattle.row.proofs.Locals.{Blocks, env, locals, holding, enters, leaves, var, part, sets, lands-in}
 use Rattle.row.proofs.Walk.{Lent, Data, tally-data, low, Good, fits, makes, answered, asks, then-of, is-true, is-false}
@@ -54,10 +55,10 @@ use Rattle.row.proofs.Count.Laws as N′
 use Rattle.row.proofs.tally_of.Symbol as pass-def
 use Rattle.row.proofs.tally_of.Symbol.{name as #pass}
 use Rattle.row.proofs.tally_of.Met as pass-thm
-use Rattle.row.proofs.Tally.count as count
-use Rattle.row.proofs.Tally.count.Symbol as count-def
-use Rattle.row.proofs.Tally.count.Symbol.{name as #count}
-use Rattle.row.proofs.Tally.count.Met as count-thm
+use Rattle.row.proofs.Tally.count_by as count
+use Rattle.row.proofs.Tally.count_by.Symbol as count-def
+use Rattle.row.proofs.Tally.count_by.Symbol.{name as #count}
+use Rattle.row.proofs.Tally.count_by.Met as count-thm
 use Rattle.tacit.proofs.Pass.{Passing, passes}
 use Rattle.tacit.proofs.tacit_row_count.Key.{name as #row-count}
 use Rattle.tacit.proofs.tacit_row_count as f
@@ -166,14 +167,14 @@ module _ {M : Type 1} (𝓤 : URA M) (H : Heap 𝓤) (A : Atoms 𝓤) (W : Given
         lands-in ! %tally refl (fits tally-data W t good .0) $
         asks ! fm (Counting 𝓤 H A mem run) (known .1) (to-count t) _ refl (qed W [] ∵ nothing ! $ owned ! u32 (Is u32) (uint-makes 𝓤 H A W w32) n _ (refl, gm) $ fjoin ! $ makes ! tally-data t good $ fjoin ! $ done !)
         (and-then ! (var ! %tally refl) (and-then ! (var ! %ta-id refl) (no-more !))) (λ v.
-        answered ! count-data (‵ ftrue) (lasts count.ended tt (t, (n, tt))) (λ c _. c ≡ countIn t n) (id⊢ 𝓤 _) (λ c ws counted made. drop ! $ drop ! $
+        answered ! count-data (‵ ftrue) (lasts count.ended tt (t, (n, tt))) (λ c _. c ≡ countBy t n) (id⊢ 𝓤 _) (λ c ws counted made. drop ! $ drop ! $
         lands-in ! %result refl (fits count-data W c made .0) $ leaves ! En Post refl refl refl $
-        by ! (exits c made (counted ∙ ap (λ (t : Tally). countIn t n) said ∙ count-in-row ys n there)))))
+        by ! (exits c made (counted ∙ ap (λ (t : Tally). countBy t n) said ∙ count-in-row ys n there)))))
 
     outside : isRow ys ≡ false → Sq W Tested (runs (𝓣 .C) (𝓣 .Λ) En mir.t-7 (atRet En Post))
     outside no-row =
         asks ! fm (Uncounted 𝓤 H A mem run) (known .2) ((tt, tt, tt, tt, tt), tt) _ refl (id⊢ 𝓤 _) (no-more !) (λ v.
-        answered ! count-data (‵ ftrue) (lasts none.ended tt tt) (λ c _. c ≡ notCounted 11) (id⊢ 𝓤 _) (λ c ws said made. drop ! $ drop ! $
+        answered ! count-data (‵ ftrue) (lasts none.ended tt tt) (λ c _. c ≡ notCounted outsideRow) (id⊢ 𝓤 _) (λ c ws said made. drop ! $ drop ! $
         lands-in ! %result refl (fits count-data W c made .0) $ leaves ! En Post refl refl refl $ by ! (exits c made (said ∙ not-counted ys n no-row))))
 
     starts : Sq W (With []) (runs (𝓣 .C) (𝓣 .Λ) En mir.t-1 (atRet En Post))
@@ -204,6 +205,6 @@ tacit-row-count-spec 𝓤 H 𝓜 𝓖 𝓡 =
     (tables 𝓤 H 𝓜 𝓡 code.env .C) (tables 𝓤 H 𝓜 𝓡 code.env .Λ) #row-count code.function (code.unfolded 𝓤 H 𝓜 𝓡)
     (row-count-meets 𝓤 H (𝓖 .A) (givenOf 𝓤 H 𝓜 𝓖) (𝓜 .mem) (𝓡 .run) (tablesOf 𝓤 H 𝓜 (tables 𝓤 H 𝓜 𝓡 code.env)) (
       cited 𝓤 H (Passing 𝓤 H (𝓖 .A) (𝓜 .mem) (𝓡 .run)) 𝓜 𝓡 code.env #pass pass-def.routine code.calls-row·tally-of (pass-thm.met 𝓤 H 𝓜 𝓖 𝓡),
-      cited 𝓤 H (Counting 𝓤 H (𝓖 .A) (𝓜 .mem) (𝓡 .run)) 𝓜 𝓡 code.env #count count-def.routine code.calls-row·Tally·count (count-thm.met 𝓤 H 𝓜 𝓖 𝓡),
+      cited 𝓤 H (Counting 𝓤 H (𝓖 .A) (𝓜 .mem) (𝓡 .run)) 𝓜 𝓡 code.env #count count-def.routine code.calls-row·Tally·count-by (count-thm.met 𝓤 H 𝓜 𝓖 𝓡),
       cited 𝓤 H (Uncounted 𝓤 H (𝓖 .A) (𝓜 .mem) (𝓡 .run)) 𝓜 𝓡 code.env #uncounted none-def.routine code.calls-row·uncounted (none-thm.met 𝓤 H 𝓜 𝓖 𝓡),
     ))

@@ -52,24 +52,25 @@ use denote.Exit.{yes}
 use Rattle.session.specs.declared.Session.{Session}
 use Rattle.session.specs.declared.Answer.{Answer}
 use Rattle.session.specs.declared.After.{After}
-use Rattle.session.specs.Events.{refused}
+use Rattle.session.specs.Decisions.{refused}
+use Rattle.session.specs.With.{noSession}
 use Rattle.session.proofs.Session as T
 use Rattle.session.proofs.Session.Laws as T′
 use Rattle.session.proofs.Answer as N
 use Rattle.session.proofs.Answer.Laws as N′
 use Rattle.session.proofs.After as Z
 use Rattle.session.proofs.After.Laws as Z′
-use Rattle.row.specs.declared.Event.{Event}
+use Rattle.row.specs.declared.EventNumbers.{EventNumbers}
 use Rattle.row.specs.declared.Limits.{Limits}
 use Rattle.row.specs.declared.Tally.{Tally}
-use Rattle.row.specs.Row.{nobody, sessionAt, inRow, eventAt, rowAfter, roomAfter}
-use Rattle.row.specs.Tally as S
-use Rattle.row.specs.Tally.{tallied, eventIn, roomIn}
+use Rattle.row.specs.Row.{sessionAt, inRow, eventAt, outside as outsideAnswer, rowAfter, roomAfter}
+use Rattle.row.specs.Counting as S
+use Rattle.row.specs.Counting.{tallied, decidedBy, roomBy}
 use Rattle.row.proofs.Tallied.{event-in-row, room-in-row, outside-answer, outside-row, outside-room}
 use Rattle.row.proofs.Locals.{Blocks, env, locals, holding, enters, leaves, held, var, part, behind, sets, refills, lands-in, retold}
 use Rattle.row.proofs.Walk.{session-size, Lent, Data, session-data, tally-data, low, Good, fits, makes, answered, asks, then-of, after, is-true, is-false}
-use Rattle.row.proofs.Event as E
-use Rattle.row.proofs.Event.Laws as E′
+use Rattle.row.proofs.EventNumbers as E
+use Rattle.row.proofs.EventNumbers.Laws as E′
 use Rattle.row.proofs.Limits as L
 use Rattle.row.proofs.Limits.Laws as L′
 use Rattle.row.proofs.tally_of.Symbol as pass-def
@@ -187,7 +188,7 @@ module _ {M : Type 1} (𝓤 : URA M) (H : Heap 𝓤) (A : Atoms 𝓤) (mem : Mem
   abbrev Known : Tables 𝓤 H → Type 1
   Known 𝓣 = Triple 𝓤 (𝓣 .C #pass) (Passing 𝓤 H A mem run) × Triple 𝓤 (𝓣 .C #event) Happening × Triple 𝓤 (𝓣 .C #outside) Outside
 
-module _ {M : Type 1} (𝓤 : URA M) (H : Heap 𝓤) (A : Atoms 𝓤) (W : Given 𝓤 H A) (mem : Memory → SProp 𝓤) (run : Routine → Fun 𝓤) (κ κ₁ κ₂ : Lft) (q q₁ q₂ : Share) (b o : ℕ) (γ : GName) (ys : List Session) (i : ℕ) (ev : Event) (li : Limits)
+module _ {M : Type 1} (𝓤 : URA M) (H : Heap 𝓤) (A : Atoms 𝓤) (W : Given 𝓤 H A) (mem : Memory → SProp 𝓤) (run : Routine → Fun 𝓤) (κ κ₁ κ₂ : Lft) (q q₁ q₂ : Share) (b o : ℕ) (γ : GName) (ys : List Session) (i : ℕ) (ev : EventNumbers) (li : Limits)
     (area room : RefT (List ℕ)) where
   abbrev row-ref : GName → List Session → RefT (List Session)
   row-ref δ zs = record { ptr = (b, o); name = δ; now = zs }
@@ -228,14 +229,14 @@ module _ {M : Type 1} (𝓤 : URA M) (H : Heap 𝓤) (A : Atoms 𝓤) (W : Given
   Row-after = rowAfter ys i ev li (area .now) (length (room .now))
 
   abbrev Room-after : List ℕ
-  Room-after = roomAfter ys i ev (room .now)
+  Room-after = roomAfter ys i ev li (area .now) (room .now)
 
   -- and what `event_in` says, of the session and of the tally of the row
   abbrev Event-in : Tally → After
-  Event-in t = eventIn e t ev li (area .now) (length (room .now))
+  Event-in t = decidedBy e t ev li (area .now) (length (room .now))
 
   abbrev Room-in : Tally → List ℕ
-  Room-in t = roomIn e t ev (room .now)
+  Room-in t = roomBy e t ev li (area .now) (room .now)
 
   abbrev Obs : List Session → Fml
   Obs zs = fobs γ (codedHoleys T.the-row .code (heres T.the-row zs))
@@ -305,12 +306,12 @@ module _ {M : Type 1} (𝓤 : URA M) (H : Heap 𝓤) (A : Atoms 𝓤) (W : Given
       abbrev Passed : Tally → List (Item 𝓤)
       Passed t = With ((%row-ptr, vptr b o) ∷ (%row-lent, row-val) ∷ (%tally, low tally-data t) ∷ Tests)
 
-      passed : (t : Tally) → Good tally-data t → t ≡ tallied S.nothing ys → inRow ys i ≡ true → Sq W (Passed t) (runs (𝓣 .C) (𝓣 .Λ) En (after (after (after (then-of mir.s-6)))) Then)
+      passed : (t : Tally) → Good tally-data t → t ≡ tallied S.emptyTally ys → inRow ys i ≡ true → Sq W (Passed t) (runs (𝓣 .C) (𝓣 .Λ) En (after (after (after (then-of mir.s-6)))) Then)
       passed t good counted inside =
           let within = ltb-true i (length ys) (and-first (ltb i (length ys)) (leb (length ys) 64) inside) in let scaled : Fits w64 (i * session-size) = scaled-fits i (length ys) session-size within (gn .1) in
           sets ! %far (bin ! (var ! %at refl) (lit ! tt) scaled) refl (tt, scaled) $
           sets ! %place (bin ! (part ! %row 0 refl refl) (var ! %far refl) tt) refl (tt, tt) $ retold ! %place (vptr b) (sym (place-is session-size o i)) refl $
-          opens-slice ! tt T.the-row ys b o $ elem-out ! T.the-row (Is T.the-row) (shows 𝓤 H A T.the-row) (LL.vals T.the-type T′.the-laws) (LL.tells T.the-type T′.the-laws) fullShare ys i nobody b o within (λ was.
+          opens-slice ! tt T.the-row ys b o $ elem-out ! T.the-row (Is T.the-row) (shows 𝓤 H A T.the-row) (LL.vals T.the-type T′.the-laws) (LL.tells T.the-type T′.the-laws) fullShare ys i noSession b o within (λ was.
           -- [row[i]; what it owns; the others; the open borrow; obs; auth; two tokens; area; room; the locals]
           sets ! %session (of-opd ! (load ! (from ! (hop ! (held ! %place refl) (stop !))) (look-raw ! 0 refl))) refl (fits session-data W e was .0) $
           sets ! %room-ptr (behind ! %room 0 refl refl refl) refl (tt, tt) $
@@ -334,11 +335,11 @@ module _ {M : Type 1} (𝓤 : URA M) (H : Heap 𝓤) (A : Atoms 𝓤) (W : Given
           sets ! %result (of-opd ! (part ! %after 1 refl refl)) refl (fits answer-data W (r .answer) (parts .1 .0) .0) $ leaves ! En Post refl refl refl $
           by ! (exits (r .answer) (set ys i (r .session)) ws (parts .1 .0) (ap (λ (a : After). a .answer) (said .0 ∙ agree counted inside)) (ap (λ (a : After). set ys i (a .session)) (said .0 ∙ agree counted inside)) (said .1 ∙ agree-room counted inside) (length-set ys i (r .session)) len)))))
         where
-          agree : t ≡ tallied S.nothing ys → inRow ys i ≡ true → Event-in t ≡ Event-at
+          agree : t ≡ tallied S.emptyTally ys → inRow ys i ≡ true → Event-in t ≡ Event-at
           agree c l = ap Event-in c ∙ event-in-row ys i ev li (area .now) (length (room .now)) l
 
-          agree-room : t ≡ tallied S.nothing ys → inRow ys i ≡ true → Room-in t ≡ Room-after
-          agree-room c l = ap Room-in c ∙ room-in-row ys i ev (room .now) l
+          agree-room : t ≡ tallied S.emptyTally ys → inRow ys i ≡ true → Room-in t ≡ Room-after
+          agree-room c l = ap Room-in c ∙ room-in-row ys i ev li (area .now) (room .now) l
 
       inside : inRow ys i ≡ true → Sq W (With Tests) (runs (𝓣 .C) (𝓣 .Λ) En (then-of mir.s-6) Then)
       inside there =
@@ -355,12 +356,12 @@ module _ {M : Type 1} (𝓤 : URA M) (H : Heap 𝓤) (A : Atoms 𝓤) (W : Given
       outside : inRow ys i ≡ false → Sq W (With Tests) (runs (𝓣 .C) (𝓣 .Λ) En mir.t-7 (atRet En Post))
       outside none =
           asks ! fm (Outside 𝓤 H A mem run) (known .2) ((tt, tt, tt, tt, tt), tt) _ refl (id⊢ 𝓤 _) (no-more !) (λ v.
-          answered ! answer-data (‵ ftrue) (lasts out.ended tt tt) (λ r _. r ≡ refused nobody 11 .answer) (id⊢ 𝓤 _) (λ r ws said good. drop ! $ drop ! $
+          answered ! answer-data (‵ ftrue) (lasts out.ended tt tt) (λ r _. r ≡ outsideAnswer) (id⊢ 𝓤 _) (λ r ws said good. drop ! $ drop ! $
           lands-in ! %result refl (fits answer-data W r good .0) $ leaves ! En Post refl refl refl $
           -- [obs; the borrow; its token; two tokens; area; room]: of the room only its last list is left
           move ! (5 ∷ []) $ fsplit ! $ move ! (1 ∷ []) $ fsplit ! $ use1 W (‵ (fres (room .name) (codedHoleys u8 .code (heres u8 (room .now))))) (W .names .obs-res (room .name) (codedHoleys u8 .code (heres u8 (room .now)))) $
           use1 W (‵ (finally u8 (room .name) (room .now))) (res-finally 𝓤 H A W (named 2) κ₂ u8 (room .name) (room .now)) $ keep ! (3 ∷ 4 ∷ 5 ∷ 0 ∷ 6 ∷ 7 ∷ []) $
-          by ! (exits r ys (room .now) good (said ∙ outside-answer ys i ev none li (area .now) (length (room .now))) (outside-row ys i ev none li (area .now) (length (room .now))) (outside-room ys i ev none (room .now)) refl refl)))
+          by ! (exits r ys (room .now) good (said ∙ outside-answer ys i ev li (area .now) none (length (room .now))) (outside-row ys i ev li (area .now) none (length (room .now))) (outside-room ys i ev li (area .now) none (room .now)) refl refl)))
 
       starts : Sq W (With []) (runs (𝓣 .C) (𝓣 .Λ) En mir.t-1 (atRet En Post))
       starts =
