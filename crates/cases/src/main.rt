@@ -7,7 +7,7 @@ mod lines;
 mod play;
 
 // One call after another, up to the first that is none of ours or cut short.
-fn replay(kept: &mut [u8], input: &[u8]) {
+fn replay(lent: &mut [u8], input: &[u8]) {
     let mut at = 0;
     while at < input.len() {
         let call = &input[at..];
@@ -15,14 +15,14 @@ fn replay(kept: &mut [u8], input: &[u8]) {
         if size == 0 {
             return;
         }
-        play::one(kept, call);
+        play::one(lent, call);
         at += size;
     }
 }
 
 fn main() {
     let mut input = [0u8; 32768];
-    let mut kept = [0u8; 22];
+    let mut lent = [0u8; record::LENGTH];
     let n = io::read_full(STDIN_FILENO, &mut input);
-    replay(&mut kept, &input[..n]);
+    replay(&mut lent, &input[..n]);
 }

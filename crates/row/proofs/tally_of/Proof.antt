@@ -52,7 +52,7 @@ use Rattle.row.specs.Row.{sessionAt}
 use Rattle.row.specs.Counting as S
 use Rattle.row.specs.Counting.{tallied}
 use Rattle.row.proofs.Locals.{Blocks, env, locals, holding, enters, leaves, keeps-only, held, var, part, sets, refills, lands-in, retold}
-use Rattle.row.proofs.Walk.{Lent, after, session-size, session-data, tally-data, low, Good, fits, makes, answered, asks}
+use Rattle.row.proofs.Walk.{Lent, after, session-size, session-data, tally-data, low, Good, fits, makes, asks}
 use Rattle.row.proofs.Tally.empty as empty-yet
 use Rattle.row.proofs.Tally.empty.Symbol as empty-def
 use Rattle.row.proofs.Tally.empty.Symbol.{name as #empty}
@@ -197,12 +197,11 @@ module _ {M : Type 1} (𝓤 : URA M) (H : Heap 𝓤) (A : Atoms 𝓤) (W : Given
         elem-back ! T.the-row q′ ys i noSession (mach i ∷ []) b o (within less) $ shuts-slice ! tt T.the-row q′ ys b o $ move ! (1 ∷ 0 ∷ []) $
         -- and counted
         asks ! (fmOf 𝓤 H (W .laws) 𝓣) (Turn 𝓤 H A mem run) (known .1) (to-turn t i) _ refl (qed W [] ∵ nothing ! $ makes ! session-data (sessionAt ys i) is $ fjoin ! $ makes ! tally-data t t-is $ fjoin ! $ done !)
-        (and-then ! (var ! %tally refl) (and-then ! (var ! %session refl) (no-more !))) (λ v.
-        answered ! tally-data (‵ ftrue) (lasts tally.ended tt (t, (sessionAt ys i, tt))) (λ r _. r ≡ S.tally t (sessionAt ys i)) (id⊢ 𝓤 _) (λ r ws e good. drop ! $ drop ! $
+        (and-then ! (var ! %tally refl) (and-then ! (var ! %session refl) (no-more !))) tally-data (lasts tally.ended tt (t, (sessionAt ys i, tt))) (λ r. r ≡ S.tally t (sessionAt ys i)) (λ v. id⊢ 𝓤 _) (λ r e good.
         land ! (from ! (stop !)) (refills ! %tally refl (fits tally-data W r good .0)) $
         assigns-last ! (bin ! (var ! %k refl) (lit ! tt) (record { fits = next-fits less })) (from ! (stop !)) (refills ! %k refl (tt, record { fits = next-fits less })) $
         keeps-only ! En (%row ∷ %tally ∷ %k ∷ []) refl $
-        again ! Nearer At u (i + 1, (r, (add-one-le (within less), (good, step ys i t (within less) (u .1 .1 .1 .1) r e)))) (add-one-dec (length ys) i (within less)))))))
+        again ! Nearer At u (i + 1, (r, (add-one-le (within less), (good, step ys i t (within less) (u .1 .1 .1 .1) r e)))) (add-one-dec (length ys) i (within less))))))
         (λ over. jumps ! $ exec ! C Λ En mir.t-4 (atRet En Post) $
         sets ! %result (of-opd ! (var ! %tally refl)) refl (fits tally-data W t t-is .0) $ leaves ! En Post refl refl refl $ drop ! $
         by ! (exits t t-is (last ys i t (le-antisymm (u .1 .1 .0) (nltb→le i (length ys) over)) (u .1 .1 .1 .1))))
@@ -227,11 +226,10 @@ module _ {M : Type 1} (𝓤 : URA M) (H : Heap 𝓤) (A : Atoms 𝓤) (W : Given
 
     starts : Sq W (With []) (runs C Λ En mir.t-1 (atRet En Post))
     starts =
-        asks ! (fmOf 𝓤 H (W .laws) 𝓣) (Start 𝓤 H A mem run) (known .0) ((tt, tt, tt, tt, tt), tt) _ refl (id⊢ 𝓤 _) (no-more !) (λ v.
-        answered ! tally-data (‵ ftrue) (lasts empty-yet.ended tt tt) (λ r _. r ≡ S.emptyTally) (id⊢ 𝓤 _) (λ r ws e good. drop ! $ drop ! $
+        asks ! (fmOf 𝓤 H (W .laws) 𝓣) (Start 𝓤 H A mem run) (known .0) ((tt, tt, tt, tt, tt), tt) _ refl (id⊢ 𝓤 _) (no-more !) tally-data (lasts empty-yet.ended tt tt) (λ r. r ≡ S.emptyTally) (λ v. id⊢ 𝓤 _) (λ r e good.
         lands-in ! %tally refl (fits tally-data W r good .0) $
         sets ! %k (of-opd ! (lit ! tt)) refl (tt, record { fits = lit< tt }) $
-        first ! $ blocks ! $ loops ! 𝓣 Nearer Nearer-wf At turns (0, (r, (zero-le, (good, ap (λ (t : Tally). tallied t ys) e))))))
+        first ! $ blocks ! $ loops ! 𝓣 Nearer Nearer-wf At turns (0, (r, (zero-le, (good, ap (λ (t : Tally). tallied t ys) e)))))
 
   walk : (𝓣 : Tables 𝓤 H) → Known 𝓤 H A mem run 𝓣 → ent 𝓤 (onEntry 𝓤 H A f.signature (y .0 .0) (y .0 .1) (y .0 .3) (y .0 .4)) (WpFn 𝓤 H (𝓣 .C) (𝓣 .Λ) code.function (row-val ∷ []) Post)
   walk 𝓣 known =

@@ -45,7 +45,7 @@ use Rattle.row.specs.Row.{isRow, notCounted, countOf}
 use Rattle.row.specs.Counting.{countBy}
 use Rattle.row.proofs.Tallied.{count-in-row, not-counted}
 use Rattle.row.proofs.Locals.{Blocks, env, locals, holding, enters, leaves, var, part, sets, lands-in}
-use Rattle.row.proofs.Walk.{Lent, Data, tally-data, low, Good, fits, makes, answered, asks, then-of, is-true, is-false}
+use Rattle.row.proofs.Walk.{Lent, Data, tally-data, low, Good, fits, makes, asks, then-of, is-true, is-false}
 use Rattle.row.proofs.uncounted as none
 use Rattle.row.proofs.uncounted.Symbol as none-def
 use Rattle.row.proofs.uncounted.Symbol.{name as #uncounted}
@@ -166,16 +166,14 @@ module _ {M : Type 1} (𝓤 : URA M) (H : Heap 𝓤) (A : Atoms 𝓤) (W : Given
         passes ! mem run κ q row-ref fm (known .0) (and-then ! (var ! %row refl) (no-more !)) (λ t said good.
         lands-in ! %tally refl (fits tally-data W t good .0) $
         asks ! fm (Counting 𝓤 H A mem run) (known .1) (to-count t) _ refl (qed W [] ∵ nothing ! $ owned ! u32 (Is u32) (uint-makes 𝓤 H A W w32) n _ (refl, gm) $ fjoin ! $ makes ! tally-data t good $ fjoin ! $ done !)
-        (and-then ! (var ! %tally refl) (and-then ! (var ! %ta-id refl) (no-more !))) (λ v.
-        answered ! count-data (‵ ftrue) (lasts count.ended tt (t, (n, tt))) (λ c _. c ≡ countBy t n) (id⊢ 𝓤 _) (λ c ws counted made. drop ! $ drop ! $
+        (and-then ! (var ! %tally refl) (and-then ! (var ! %ta-id refl) (no-more !))) count-data (lasts count.ended tt (t, (n, tt))) (λ c. c ≡ countBy t n) (λ v. id⊢ 𝓤 _) (λ c counted made.
         lands-in ! %result refl (fits count-data W c made .0) $ leaves ! En Post refl refl refl $
-        by ! (exits c made (counted ∙ ap (λ (t : Tally). countBy t n) said ∙ count-in-row ys n there)))))
+        by ! (exits c made (counted ∙ ap (λ (t : Tally). countBy t n) said ∙ count-in-row ys n there))))
 
     outside : isRow ys ≡ false → Sq W Tested (runs (𝓣 .C) (𝓣 .Λ) En mir.t-7 (atRet En Post))
     outside no-row =
-        asks ! fm (Uncounted 𝓤 H A mem run) (known .2) ((tt, tt, tt, tt, tt), tt) _ refl (id⊢ 𝓤 _) (no-more !) (λ v.
-        answered ! count-data (‵ ftrue) (lasts none.ended tt tt) (λ c _. c ≡ notCounted outsideRow) (id⊢ 𝓤 _) (λ c ws said made. drop ! $ drop ! $
-        lands-in ! %result refl (fits count-data W c made .0) $ leaves ! En Post refl refl refl $ by ! (exits c made (said ∙ not-counted ys n no-row))))
+        asks ! fm (Uncounted 𝓤 H A mem run) (known .2) ((tt, tt, tt, tt, tt), tt) _ refl (id⊢ 𝓤 _) (no-more !) count-data (lasts none.ended tt tt) (λ c. c ≡ notCounted outsideRow) (λ v. id⊢ 𝓤 _) (λ c said made.
+        lands-in ! %result refl (fits count-data W c made .0) $ leaves ! En Post refl refl refl $ by ! (exits c made (said ∙ not-counted ys n no-row)))
 
     starts : Sq W (With []) (runs (𝓣 .C) (𝓣 .Λ) En mir.t-1 (atRet En Post))
     starts =

@@ -355,13 +355,12 @@ module _ {M : Type 1} (𝓤 : URA M) (H : Heap 𝓤) (A : Atoms 𝓤) (W : Given
 
       outside : inRow ys i ≡ false → Sq W (With Tests) (runs (𝓣 .C) (𝓣 .Λ) En mir.t-7 (atRet En Post))
       outside none =
-          asks ! fm (Outside 𝓤 H A mem run) (known .2) ((tt, tt, tt, tt, tt), tt) _ refl (id⊢ 𝓤 _) (no-more !) (λ v.
-          answered ! answer-data (‵ ftrue) (lasts out.ended tt tt) (λ r _. r ≡ outsideAnswer) (id⊢ 𝓤 _) (λ r ws said good. drop ! $ drop ! $
+          asks ! fm (Outside 𝓤 H A mem run) (known .2) ((tt, tt, tt, tt, tt), tt) _ refl (id⊢ 𝓤 _) (no-more !) answer-data (lasts out.ended tt tt) (λ r. r ≡ outsideAnswer) (λ v. id⊢ 𝓤 _) (λ r said good.
           lands-in ! %result refl (fits answer-data W r good .0) $ leaves ! En Post refl refl refl $
           -- [obs; the borrow; its token; two tokens; area; room]: of the room only its last list is left
           move ! (5 ∷ []) $ fsplit ! $ move ! (1 ∷ []) $ fsplit ! $ use1 W (‵ (fres (room .name) (codedHoleys u8 .code (heres u8 (room .now))))) (W .names .obs-res (room .name) (codedHoleys u8 .code (heres u8 (room .now)))) $
           use1 W (‵ (finally u8 (room .name) (room .now))) (res-finally 𝓤 H A W (named 2) κ₂ u8 (room .name) (room .now)) $ keep ! (3 ∷ 4 ∷ 5 ∷ 0 ∷ 6 ∷ 7 ∷ []) $
-          by ! (exits r ys (room .now) good (said ∙ outside-answer ys i ev li (area .now) none (length (room .now))) (outside-row ys i ev li (area .now) none (length (room .now))) (outside-room ys i ev li (area .now) none (room .now)) refl refl)))
+          by ! (exits r ys (room .now) good (said ∙ outside-answer ys i ev li (area .now) none (length (room .now))) (outside-row ys i ev li (area .now) none (length (room .now))) (outside-room ys i ev li (area .now) none (room .now)) refl refl))
 
       starts : Sq W (With []) (runs (𝓣 .C) (𝓣 .Λ) En mir.t-1 (atRet En Post))
       starts =
