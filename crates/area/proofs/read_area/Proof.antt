@@ -1,13 +1,13 @@
 -- `area::read_area` meets its contract. The loop's invariant: reading on from `at`, with what was found, gives what reading the whole gives.
 -- Assumes nothing.
 use borrow.Author.Needs.{needs}
-use borrow.Author.Tests.{le-ltb}
+use borrow.Author.Tests.{lt-ltb, le-ltb}
 use native.Mathlib.Omega.{arith}
 use mathlib.Core.Path.{_∙_, sym, ap}
 use Prim.Native.Nat.{_-_}
 use lib.ListN.{length}
 use denote.Ref.{now}
-use Rattle.choice.proofs.Branch.{branch}
+use Rattle.choice.proofs.Branch.{taken}
 use Rattle.choice.specs.Pick.{pick}
 use Rattle.area.specs.declared.Reading.{Reading}
 use Rattle.area.specs.Found.{nothingFound}
@@ -31,8 +31,8 @@ next c =
     rw t (onward _ _ _ _ (c .before .before .before .loop-test .taken) (c .before .before .before .before .loop .inv) (rw t at (c .if2 .left)))
 
 returns : tie.Need-returns Inv-loop μ-loop
-unfolding readArea pick
-returns c = search branch
+unfolding readArea
+returns c = c .refuse .ensures ∙ sym (taken _ _ (lt-ltb _ _ (c .before .if1 .taken)))
 
 loop-holds : tie.Need-loop-holds Inv-loop μ-loop
 loop-holds c =
