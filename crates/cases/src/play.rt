@@ -83,7 +83,16 @@ fn read(call: &[u8]) {
 
 // The record gives way to the octets of the call.
 fn replace(lent: &mut [u8], call: &[u8]) {
-    octets::put(lent, area::part_of(call, area::Span { start: 1, len: record::LENGTH as u16 }));
+    octets::put(
+        lent,
+        area::part_of(
+            call,
+            area::Span {
+                start: 1,
+                len: record::LENGTH as u16,
+            },
+        ),
+    );
     lines::octets(lent);
 }
 

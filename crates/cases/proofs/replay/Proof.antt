@@ -13,41 +13,14 @@ Inv-loop kept₀ input at₀ kept at = length kept ≡ length kept₀
 abbrev μ-loop : tie.MeasureT-loop
 μ-loop kept₀ input at₀ kept at = length input - at
 
-loop-holds : tie.Need-loop-holds Inv-loop μ-loop
-loop-holds c = search needs
-
-sub-call : tie.Need-sub-call Inv-loop μ-loop
-sub-call c = omega arith
-
-part-call-start : tie.Need-part-call-start Inv-loop μ-loop
-part-call-start c = omega arith
-
-part-call-end : tie.Need-part-call-end Inv-loop μ-loop
-part-call-end c = omega arith
-
 size-requires : tie.Need-size-requires Inv-loop μ-loop
 size-requires c κs = tt
-
-same-length : tie.Need-same-length Inv-loop μ-loop
-same-length c = search needs
 
 returns : tie.Need-returns Inv-loop μ-loop
 returns c = tt
 
 one-requires : tie.Need-one-requires Inv-loop μ-loop
 one-requires c κs = tt
-
-add-at : tie.Need-add-at Inv-loop μ-loop
-add-at c = omega arith
-
-loop-less : tie.Need-loop-less Inv-loop μ-loop
-loop-less c = omega arith
-
-loop-again : tie.Need-loop-again Inv-loop μ-loop
-loop-again c = search needs
-
-same-length-2 : tie.Need-same-length-2 Inv-loop μ-loop
-same-length-2 c = search needs
 
 returns-2 : tie.Need-returns-2 Inv-loop μ-loop
 returns-2 c = tt
@@ -56,18 +29,7 @@ pub replay-spec : {M : Type 1} → statement M
 replay-spec =
     tie.close
     (tie.spec
-    Inv-loop
-    μ-loop
-    loop-holds
-    sub-call
-    part-call-start
-    part-call-end
-    size-requires
-    same-length
-    returns
+    Inv-loop μ-loop (λ c. search needs) (λ c. omega arith) (λ c. omega arith) (λ c. omega arith) size-requires
+    (λ c. search needs) returns
     one-requires
-    add-at
-    loop-less
-    loop-again
-    same-length-2
-    returns-2)
+    (λ c. omega arith) (λ c. omega arith) (λ c. search needs) (λ c. search needs) returns-2)

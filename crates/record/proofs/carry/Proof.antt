@@ -7,12 +7,6 @@ use borrow.Author.Needs.{needs}
 use Rattle.record.proofs.carry.Statement.{statement}
 use Rattle.record.proofs.carry.Tie as tie
 
-stored-in-requires : tie.Need-stored-in-requires
-stored-in-requires c κs = search needs
-
-same-length : tie.Need-same-length
-same-length c = search needs
-
 returns : tie.Need-returns
 unfolding recordAfter
 returns c = record { answer = refl; octets = c .before .before .stored-in .ensures ∙ sym (taken _ _ (eq-eqb _ _ (c .before .before .before .before .if1 .taken))) }
@@ -22,4 +16,4 @@ unfolding recordAfter
 returns-2 c = record { answer = refl; octets = sym (left _ _ (ne-eqb _ _ (c .if1 .left))) }
 
 pub carry-spec : {M : Type 1} → statement M
-carry-spec = tie.close (tie.spec stored-in-requires same-length returns returns-2)
+carry-spec = tie.close (tie.spec (λ c κs. search needs) (λ c. search needs) returns returns-2)

@@ -7,25 +7,13 @@ use borrow.Author.Needs.{needs}
 use Rattle.record.proofs.decoded.Statement.{statement}
 use Rattle.record.proofs.decoded.Tie as tie
 
-headed-requires : tie.Need-headed-requires
-headed-requires c κs = search needs
-
-fields-requires : tie.Need-fields-requires
-fields-requires c κs = search needs
-
 returns : tie.Need-returns
 unfolding decoded
 returns c = simp (eq-eqb _ _ (c .before .before .before .if1 .taken), sym (c .before .before .headed .ensures) ∙ c .before .if2 .taken, c .fields .ensures, pick-true)
 
-none-requires : tie.Need-none-requires
-none-requires c κs = search needs
-
 returns-2 : tie.Need-returns-2
 unfolding decoded
 returns-2 c = simp (eq-eqb _ _ (c .before .before .before .if1 .taken), sym (c .before .before .headed .ensures) ∙ c .before .if2 .left, c .none .ensures, pick-true, pick-false)
-
-none-requires-2 : tie.Need-none-requires-2
-none-requires-2 c κs = search needs
 
 returns-3 : tie.Need-returns-3
 unfolding decoded
@@ -35,10 +23,6 @@ pub decoded-spec : {M : Type 1} → statement M
 decoded-spec =
     tie.close
     (tie.spec
-    headed-requires
-    fields-requires
-    returns
-    none-requires
-    returns-2
-    none-requires-2
-    returns-3)
+    (λ c κs. search needs) (λ c κs. search needs) returns
+    (λ c κs. search needs) returns-2
+    (λ c κs. search needs) returns-3)

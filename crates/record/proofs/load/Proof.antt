@@ -6,18 +6,9 @@ use borrow.Author.Needs.{needs}
 use Rattle.record.proofs.load.Statement.{statement}
 use Rattle.record.proofs.load.Tie as tie
 
-decoded-requires : tie.Need-decoded-requires
-decoded-requires c κs = search needs
-
-sound-requires : tie.Need-sound-requires
-sound-requires c κs = search needs
-
 returns : tie.Need-returns
 unfolding load
 returns c = simp (simp (c .before .before .decoded .ensures) at (sym (c .before .sound .ensures) ∙ c .if1 .taken), c .before .before .decoded .ensures, pick-true)
-
-none-requires : tie.Need-none-requires
-none-requires c κs = search needs
 
 returns-2 : tie.Need-returns-2
 unfolding load
@@ -25,4 +16,4 @@ returns-2 c = simp (simp (c .before .before .before .decoded .ensures) at (sym (
 
 pub load-spec : {M : Type 1} → statement M
 load-spec =
-    tie.close (tie.spec decoded-requires sound-requires returns none-requires returns-2)
+    tie.close (tie.spec (λ c κs. search needs) (λ c κs. search needs) returns (λ c κs. search needs) returns-2)

@@ -8,15 +8,6 @@ use borrow.Author.Needs.{needs}
 use Rattle.record.proofs.store.Statement.{statement}
 use Rattle.record.proofs.store.Tie as tie
 
-sound-requires : tie.Need-sound-requires
-sound-requires c κs = search needs
-
-stored-in-requires : tie.Need-stored-in-requires
-stored-in-requires c κs = search needs
-
-same-length : tie.Need-same-length
-same-length c = search needs
-
 returns : tie.Need-returns
 unfolding storeRefusal storeOctets
 returns c = (sym (taken _ _ (sym (c .before .before .before .before .before .before .sound .ensures) ∙ c .before .before .before .before .before .if1 .taken) ∙ taken _ _ (eq-eqb _ _ (c .before .before .before .before .if2 .taken))), c .before .before .stored-in .ensures ∙ sym (taken _ _ (sym (c .before .before .before .before .before .before .sound .ensures) ∙ c .before .before .before .before .before .if1 .taken)))
@@ -31,4 +22,4 @@ returns-3 c = (sym (left _ _ (sym (c .before .sound .ensures) ∙ c .if1 .left))
 
 pub store-spec : {M : Type 1} → statement M
 store-spec =
-    tie.close (tie.spec sound-requires stored-in-requires same-length returns returns-2 returns-3)
+    tie.close (tie.spec (λ c κs. search needs) (λ c κs. search needs) (λ c. search needs) returns returns-2 returns-3)

@@ -16,18 +16,6 @@ returns : tie.Need-returns
 unfolding storedIn
 returns c = sym (left _ _ (ne-eqb _ _ (c .if1 .taken)))
 
-encoded-requires : tie.Need-encoded-requires
-encoded-requires c κs = search needs
-
-slice-aggregate-put : tie.Need-slice-aggregate-put
-slice-aggregate-put c = search needs
-
-put-requires : tie.Need-put-requires
-put-requires c κs = search needs
-
-same-length : tie.Need-same-length
-same-length c = search needs
-
 returns-2 : tie.Need-returns-2
 unfolding storedIn over
 returns-2 c =
@@ -42,4 +30,4 @@ returns-2 c =
 pub stored-in-spec : {M : Type 1} → statement M
 stored-in-spec =
     tie.close
-    (tie.spec returns encoded-requires slice-aggregate-put put-requires same-length returns-2)
+    (tie.spec returns (λ c κs. search needs) (λ c. search needs) (λ c κs. search needs) (λ c. search needs) returns-2)

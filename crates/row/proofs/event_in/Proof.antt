@@ -5,18 +5,6 @@ use borrow.Author.Needs.{needs}
 use Rattle.row.proofs.event_in.Statement.{statement}
 use Rattle.row.proofs.event_in.Tie as tie
 
-decided-by-requires : tie.Need-decided-by-requires
-decided-by-requires c κs = search needs
-
-message-in-requires : tie.Need-message-in-requires
-message-in-requires c κs = search needs
-
-write-requires : tie.Need-write-requires
-write-requires c κs = search needs
-
-same-length : tie.Need-same-length
-same-length c = search needs
-
 returns : tie.Need-returns
 unfolding roomBy
 returns c =
@@ -24,4 +12,4 @@ returns c =
 
 pub event-in-spec : {M : Type 1} → statement M
 event-in-spec =
-    tie.close (tie.spec decided-by-requires message-in-requires write-requires same-length returns)
+    tie.close (tie.spec (λ c κs. search needs) (λ c κs. search needs) (λ c κs. search needs) (λ c. search needs) returns)

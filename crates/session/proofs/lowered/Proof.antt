@@ -4,14 +4,8 @@ use borrow.Author.Needs.{needs}
 use Rattle.session.proofs.lowered.Statement.{statement}
 use Rattle.session.proofs.lowered.Tie as tie
 
-minus-requires : tie.Need-minus-requires
-minus-requires c κs = search needs
-
 cast-result : tie.Need-cast-result
 cast-result c = rw (c .minus .ensures) (record { fits = minus-lt 8 _ _ (search needs) })
 
-returns : tie.Need-returns
-returns c = search needs
-
 pub lowered-spec : {M : Type 1} → statement M
-lowered-spec = tie.close (tie.spec minus-requires cast-result returns)
+lowered-spec = tie.close (tie.spec (λ c κs. search needs) cast-result (λ c. search needs))

@@ -7,9 +7,6 @@ use borrow.Author.Needs.{needs}
 use Rattle.session.proofs.raised.Statement.{statement}
 use Rattle.session.proofs.raised.Tie as tie
 
-union-requires : tie.Need-union-requires
-union-requires c κs = search needs
-
 cast-result : tie.Need-cast-result
 cast-result c = rw (c .union .ensures) (record { fits = union-lt 8 _ _ (search needs) (search needs) })
 
@@ -22,4 +19,4 @@ unfolding raised
 returns-2 c = sym (left _ _ (c .if1 .left))
 
 pub raised-spec : {M : Type 1} → statement M
-raised-spec = tie.close (tie.spec union-requires cast-result returns returns-2)
+raised-spec = tie.close (tie.spec (λ c κs. search needs) cast-result returns returns-2)

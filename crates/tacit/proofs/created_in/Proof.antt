@@ -9,21 +9,9 @@ use borrow.Author.Needs.{needs}
 use Rattle.tacit.proofs.created_in.Statement.{statement}
 use Rattle.tacit.proofs.created_in.Tie as tie
 
-enum-known-made : tie.Need-enum-known-made
-enum-known-made c = search needs
-
-stored-in-requires : tie.Need-stored-in-requires
-stored-in-requires c κs = search needs
-
-same-length : tie.Need-same-length
-same-length c = search needs
-
 returns : tie.Need-returns
 unfolding creationRefusal createdIn
 returns c = rw (c .before .before .before .before .before .before .made .given .1) (record { refusal = sym (taken notRefused notSound (eq-eqb _ recordLength (c .before .before .before .before .if1 .taken))); octets = c .before .before .stored-in .ensures })
-
-enum-known-made-2 : tie.Need-enum-known-made-2
-enum-known-made-2 c = search needs
 
 returns-2 : tie.Need-returns-2
 unfolding creationRefusal createdIn
@@ -41,11 +29,7 @@ pub created-in-spec : {M : Type 1} → statement M
 created-in-spec =
     tie.close
     (tie.spec
-    enum-known-made
-    stored-in-requires
-    same-length
-    returns
-    enum-known-made-2
-    returns-2
+    (λ c. search needs) (λ c κs. search needs) (λ c. search needs) returns
+    (λ c. search needs) returns-2
     returns-3
     returns-4)

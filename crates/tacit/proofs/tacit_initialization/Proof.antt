@@ -3,22 +3,10 @@ use borrow.Author.Needs.{needs}
 use Rattle.tacit.proofs.tacit_initialization.Statement.{statement}
 use Rattle.tacit.proofs.tacit_initialization.Tie as tie
 
-decoded-requires : tie.Need-decoded-requires
-decoded-requires c κs = search needs
-
-initialization-requires : tie.Need-initialization-requires
-initialization-requires c κs = search needs
-
-carry-requires : tie.Need-carry-requires
-carry-requires c κs = search needs
-
-same-length : tie.Need-same-length
-same-length c = search needs
-
 returns : tie.Need-returns
 returns c = simp (c .before .before .before .before .initialization .ensures, c .before .before .before .before .before .decoded .ensures) at (c .before .before .carry .ensures)
 
 pub tacit-initialization-spec : {M : Type 1} → statement M
 tacit-initialization-spec =
     tie.close
-    (tie.spec decoded-requires initialization-requires carry-requires same-length returns)
+    (tie.spec (λ c κs. search needs) (λ c κs. search needs) (λ c κs. search needs) (λ c. search needs) returns)

@@ -5,24 +5,6 @@ use borrow.Author.Needs.{needs}
 use Rattle.tacit.proofs.tacit_local_change.Statement.{statement}
 use Rattle.tacit.proofs.tacit_local_change.Tie as tie
 
-decoded-requires : tie.Need-decoded-requires
-decoded-requires c κs = search needs
-
-local-change-requires : tie.Need-local-change-requires
-local-change-requires c κs = search needs
-
-write-requires : tie.Need-write-requires
-write-requires c κs = search needs
-
-carry-requires : tie.Need-carry-requires
-carry-requires c κs = search needs
-
-same-length : tie.Need-same-length
-same-length c = search needs
-
-same-length-2 : tie.Need-same-length-2
-same-length-2 c = search needs
-
 returns : tie.Need-returns
 unfolding roomAfter
 returns c =
@@ -36,10 +18,5 @@ pub tacit-local-change-spec : {M : Type 1} → statement M
 tacit-local-change-spec =
     tie.close
     (tie.spec
-    decoded-requires
-    local-change-requires
-    write-requires
-    carry-requires
-    same-length
-    same-length-2
-    returns)
+    (λ c κs. search needs) (λ c κs. search needs) (λ c κs. search needs) (λ c κs. search needs) (λ c. search needs)
+    (λ c. search needs) returns)

@@ -3,14 +3,8 @@ use borrow.Author.Needs.{needs}
 use Rattle.tacit.proofs.tacit_permitted_kinds.Statement.{statement}
 use Rattle.tacit.proofs.tacit_permitted_kinds.Tie as tie
 
-decoded-requires : tie.Need-decoded-requires
-decoded-requires c κs = search needs
-
-permitted-kinds-requires : tie.Need-permitted-kinds-requires
-permitted-kinds-requires c κs = search needs
-
 returns : tie.Need-returns
 returns c = simp (c .permitted-kinds .ensures, c .before .decoded .ensures)
 
 pub tacit-permitted-kinds-spec : {M : Type 1} → statement M
-tacit-permitted-kinds-spec = tie.close (tie.spec decoded-requires permitted-kinds-requires returns)
+tacit-permitted-kinds-spec = tie.close (tie.spec (λ c κs. search needs) (λ c κs. search needs) returns)

@@ -3,14 +3,8 @@ use borrow.Author.Needs.{needs}
 use Rattle.tacit.proofs.tacit_sound.Statement.{statement}
 use Rattle.tacit.proofs.tacit_sound.Tie as tie
 
-decoded-requires : tie.Need-decoded-requires
-decoded-requires c κs = search needs
-
-sound-requires : tie.Need-sound-requires
-sound-requires c κs = search needs
-
 returns : tie.Need-returns
 returns c = simp (c .sound .ensures, c .before .decoded .ensures)
 
 pub tacit-sound-spec : {M : Type 1} → statement M
-tacit-sound-spec = tie.close (tie.spec decoded-requires sound-requires returns)
+tacit-sound-spec = tie.close (tie.spec (λ c κs. search needs) (λ c κs. search needs) returns)

@@ -14,17 +14,8 @@ abbrev μ-loop : tie.MeasureT-loop
 loop-holds : tie.Need-loop-holds Inv-loop μ-loop
 loop-holds c = tt
 
-shared-slice-read-two-digits : tie.Need-shared-slice-read-two-digits Inv-loop μ-loop
-shared-slice-read-two-digits c = omega arith
-
 two-digits-requires : tie.Need-two-digits-requires Inv-loop μ-loop
 two-digits-requires c κs = tt
-
-add-i : tie.Need-add-i Inv-loop μ-loop
-add-i c = omega arith
-
-loop-less : tie.Need-loop-less Inv-loop μ-loop
-loop-less c = omega arith
 
 loop-again : tie.Need-loop-again Inv-loop μ-loop
 loop-again c = tt
@@ -36,12 +27,7 @@ pub digits-spec : {M : Type 1} → statement M
 digits-spec =
     tie.close
     (tie.spec
-    Inv-loop
-    μ-loop
-    loop-holds
-    shared-slice-read-two-digits
-    two-digits-requires
-    add-i
-    loop-less
-    loop-again
+    Inv-loop μ-loop loop-holds
+    (λ c. omega arith) two-digits-requires
+    (λ c. omega arith) (λ c. omega arith) loop-again
     returns)

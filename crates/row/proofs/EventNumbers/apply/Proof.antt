@@ -8,50 +8,29 @@ use borrow.Author.Needs.{needs}
 use Rattle.row.proofs.EventNumbers.apply.Statement.{statement}
 use Rattle.row.proofs.EventNumbers.apply.Tie as tie
 
-initialization-requires : tie.Need-initialization-requires
-initialization-requires c κs = search needs
-
 returns : tie.Need-returns
 unfolding eventOf
 returns c = c .initialization .ensures ∙ ap (step (c .before .before .before .before .args .s)) (sym (taken _ _ (eq-eqb _ _ (c .before .if1 .taken))))
-
-capability-requires : tie.Need-capability-requires
-capability-requires c κs = search needs
 
 returns-2 : tie.Need-returns-2
 unfolding eventOf
 returns-2 c = c .capability .ensures ∙ ap (step (c .before .before .before .before .before .before .args .s)) (sym (left _ _ (ne-eqb _ _ (c .before .before .before .if1 .left)) ∙ taken _ _ (eq-eqb _ _ (c .before .if2 .taken))))
 
-local-change-requires : tie.Need-local-change-requires
-local-change-requires c κs = search needs
-
 returns-3 : tie.Need-returns-3
 unfolding eventOf
 returns-3 c = c .local-change .ensures ∙ ap (step (c .before .before .before .before .before .before .before .before .before .args .s)) (sym (left _ _ (ne-eqb _ _ (c .before .before .before .before .before .before .if1 .left)) ∙ left _ _ (ne-eqb _ _ (c .before .before .before .before .if2 .left)) ∙ taken _ _ (eq-eqb _ _ (c .before .before .if3 .taken))))
-
-mismatch-requires : tie.Need-mismatch-requires
-mismatch-requires c κs = search needs
 
 returns-4 : tie.Need-returns-4
 unfolding eventOf
 returns-4 c = c .mismatch .ensures ∙ ap (step (c .before .before .before .before .before .before .before .before .before .before .args .s)) (sym (left _ _ (ne-eqb _ _ (c .before .before .before .before .before .before .before .if1 .left)) ∙ left _ _ (ne-eqb _ _ (c .before .before .before .before .before .if2 .left)) ∙ left _ _ (ne-eqb _ _ (c .before .before .before .if3 .left)) ∙ taken _ _ (eq-eqb _ _ (c .before .if4 .taken))))
 
-hello-requires : tie.Need-hello-requires
-hello-requires c κs = search needs
-
 returns-5 : tie.Need-returns-5
 unfolding eventOf
 returns-5 c = c .hello .ensures ∙ ap (step (c .before .before .before .before .before .before .before .before .before .before .before .before .args .s)) (sym (left _ _ (ne-eqb _ _ (c .before .before .before .before .before .before .before .before .before .if1 .left)) ∙ left _ _ (ne-eqb _ _ (c .before .before .before .before .before .before .before .if2 .left)) ∙ left _ _ (ne-eqb _ _ (c .before .before .before .before .before .if3 .left)) ∙ left _ _ (ne-eqb _ _ (c .before .before .before .if4 .left)) ∙ taken _ _ (eq-eqb _ _ (c .before .if5 .taken))))
 
-closed-requires : tie.Need-closed-requires
-closed-requires c κs = search needs
-
 returns-6 : tie.Need-returns-6
 unfolding eventOf
 returns-6 c = c .closed .ensures ∙ ap (step (c .before .before .before .before .before .before .before .before .before .before .before .before .before .before .args .s)) (sym (left _ _ (ne-eqb _ _ (c .before .before .before .before .before .before .before .before .before .before .before .if1 .left)) ∙ left _ _ (ne-eqb _ _ (c .before .before .before .before .before .before .before .before .before .if2 .left)) ∙ left _ _ (ne-eqb _ _ (c .before .before .before .before .before .before .before .if3 .left)) ∙ left _ _ (ne-eqb _ _ (c .before .before .before .before .before .if4 .left)) ∙ left _ _ (ne-eqb _ _ (c .before .before .before .if5 .left)) ∙ taken _ _ (eq-eqb _ _ (c .before .if6 .taken))))
-
-unknown-requires : tie.Need-unknown-requires
-unknown-requires c κs = search needs
 
 returns-7 : tie.Need-returns-7
 unfolding eventOf
@@ -61,17 +40,10 @@ pub apply-spec : {M : Type 1} → statement M
 apply-spec =
     tie.close
     (tie.spec
-    initialization-requires
-    returns
-    capability-requires
-    returns-2
-    local-change-requires
-    returns-3
-    mismatch-requires
-    returns-4
-    hello-requires
-    returns-5
-    closed-requires
-    returns-6
-    unknown-requires
-    returns-7)
+    (λ c κs. search needs) returns
+    (λ c κs. search needs) returns-2
+    (λ c κs. search needs) returns-3
+    (λ c κs. search needs) returns-4
+    (λ c κs. search needs) returns-5
+    (λ c κs. search needs) returns-6
+    (λ c κs. search needs) returns-7)

@@ -5,18 +5,9 @@ use borrow.Author.Needs.{needs}
 use Rattle.row.proofs.EventNumbers.decided_by.Statement.{statement}
 use Rattle.row.proofs.EventNumbers.decided_by.Tie as tie
 
-below-limit-by-requires : tie.Need-below-limit-by-requires
-below-limit-by-requires c κs = search needs
-
-apply-requires : tie.Need-apply-requires
-apply-requires c κs = search needs
-
 returns : tie.Need-returns
 unfolding decidedBy
 returns c = simp (c .before .before .if1 .taken, c .apply .ensures, c .before .below-limit-by .ensures, pick-true)
-
-refused-requires : tie.Need-refused-requires
-refused-requires c κs = search needs
 
 returns-2 : tie.Need-returns-2
 unfolding decidedBy
@@ -24,4 +15,4 @@ returns-2 c = simp (c .before .if1 .left, c .refused .ensures, pick-false)
 
 pub decided-by-spec : {M : Type 1} → statement M
 decided-by-spec =
-    tie.close (tie.spec below-limit-by-requires apply-requires returns refused-requires returns-2)
+    tie.close (tie.spec (λ c κs. search needs) (λ c κs. search needs) returns (λ c κs. search needs) returns-2)

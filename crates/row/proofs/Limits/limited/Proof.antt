@@ -9,17 +9,8 @@ use borrow.Author.Needs.{needs}
 use Rattle.row.proofs.Limits.limited.Statement.{statement}
 use Rattle.row.proofs.Limits.limited.Tie as tie
 
-is-known-requires : tie.Need-is-known-requires
-is-known-requires c κs = search needs
-
 sub-k : tie.Need-sub-k
 sub-k c = numbered-is _ _ (sym (c .before .before .is-known .ensures) ∙ c .before .if1 .taken) .0
-
-cast-k : tie.Need-cast-k
-cast-k c = search needs
-
-cast-self : tie.Need-cast-self
-cast-self c = search needs
 
 element-write-self : tie.Need-element-write-self
 element-write-self c = omega (arith, numbered-is _ _ (sym (c .before .before .is-known .ensures) ∙ c .before .if1 .taken))
@@ -40,11 +31,8 @@ pub limited-spec : {M : Type 1} → statement M
 limited-spec =
     tie.close
     (tie.spec
-    is-known-requires
-    sub-k
-    cast-k
-    cast-self
-    element-write-self
+    (λ c κs. search needs) sub-k
+    (λ c. search needs) (λ c. search needs) element-write-self
     returns
     returns-2
     returns-3)

@@ -21,30 +21,6 @@ loop-holds : tie.Need-loop-holds Inv-loop μ-loop
 unfolding chosen
 loop-holds c = (omega arith, refl)
 
-array-read-capped : tie.Need-array-read-capped Inv-loop μ-loop
-array-read-capped c = omega arith
-
-capped-requires : tie.Need-capped-requires Inv-loop μ-loop
-capped-requires c κs = search needs
-
-array-read-is-below : tie.Need-array-read-is-below Inv-loop μ-loop
-array-read-is-below c = omega arith
-
-cast-t15 : tie.Need-cast-t15 Inv-loop μ-loop
-cast-t15 c = omega arith
-
-add-t16 : tie.Need-add-t16 Inv-loop μ-loop
-add-t16 c = omega arith
-
-switched-requires : tie.Need-switched-requires Inv-loop μ-loop
-switched-requires c κs = search needs
-
-add-k : tie.Need-add-k Inv-loop μ-loop
-add-k c = omega arith
-
-loop-less : tie.Need-loop-less Inv-loop μ-loop
-loop-less c = omega arith
-
 loop-again : tie.Need-loop-again Inv-loop μ-loop
 loop-again c =
     let l = c .before .before .before .loop in
@@ -61,16 +37,7 @@ pub below-limit-by-spec : {M : Type 1} → statement M
 below-limit-by-spec =
     tie.close
     (tie.spec
-    Inv-loop
-    μ-loop
-    loop-holds
-    array-read-capped
-    capped-requires
-    array-read-is-below
-    cast-t15
-    add-t16
-    switched-requires
-    add-k
-    loop-less
-    loop-again
+    Inv-loop μ-loop loop-holds
+    (λ c. omega arith) (λ c κs. search needs) (λ c. omega arith) (λ c. omega arith) (λ c. omega arith)
+    (λ c κs. search needs) (λ c. omega arith) (λ c. omega arith) loop-again
     returns)

@@ -8,14 +8,8 @@ use borrow.Author.Needs.{needs}
 use Rattle.row.proofs.Tally.count_by.Statement.{statement}
 use Rattle.row.proofs.Tally.count_by.Tie as tie
 
-is-known-requires : tie.Need-is-known-requires
-is-known-requires c κs = search needs
-
 sub-k : tie.Need-sub-k
 sub-k c = numbered-is _ _ (sym (c .before .is-known .ensures) ∙ c .if2 .taken) .0
-
-cast-k : tie.Need-cast-k
-cast-k c = search needs
 
 array-read-t11 : tie.Need-array-read-t11
 array-read-t11 c = omega (arith, numbered-is _ _ (sym (c .before .is-known .ensures) ∙ c .if2 .taken))
@@ -24,15 +18,9 @@ returns : tie.Need-returns
 unfolding countBy
 returns c = simp (c .before .before .if1 .taken, sym (c .before .is-known .ensures) ∙ c .if2 .taken, pick-true)
 
-not-counted-requires : tie.Need-not-counted-requires
-not-counted-requires c κs = search needs
-
 returns-2 : tie.Need-returns-2
 unfolding countBy
 returns-2 c = simp (c .before .before .before .if1 .taken, sym (c .before .before .is-known .ensures) ∙ c .before .if2 .left, c .not-counted .ensures, pick-true, pick-false)
-
-not-counted-requires-2 : tie.Need-not-counted-requires-2
-not-counted-requires-2 c κs = search needs
 
 returns-3 : tie.Need-returns-3
 unfolding countBy
@@ -42,12 +30,8 @@ pub count-by-spec : {M : Type 1} → statement M
 count-by-spec =
     tie.close
     (tie.spec
-    is-known-requires
-    sub-k
-    cast-k
-    array-read-t11
+    (λ c κs. search needs) sub-k
+    (λ c. search needs) array-read-t11
     returns
-    not-counted-requires
-    returns-2
-    not-counted-requires-2
-    returns-3)
+    (λ c κs. search needs) returns-2
+    (λ c κs. search needs) returns-3)

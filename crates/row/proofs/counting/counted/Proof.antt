@@ -19,27 +19,6 @@ loop-holds : tie.Need-loop-holds Inv-loop μ-loop
 unfolding counted
 loop-holds c = (omega arith, refl)
 
-array-read-n : tie.Need-array-read-n Inv-loop μ-loop
-array-read-n c = omega arith
-
-cast-has : tie.Need-cast-has Inv-loop μ-loop
-cast-has c = omega arith
-
-has-requires : tie.Need-has-requires Inv-loop μ-loop
-has-requires c κs = search needs
-
-more-requires : tie.Need-more-requires Inv-loop μ-loop
-more-requires c κs = search needs
-
-array-write-out : tie.Need-array-write-out Inv-loop μ-loop
-array-write-out c = omega arith
-
-add-k : tie.Need-add-k Inv-loop μ-loop
-add-k c = omega arith
-
-loop-less : tie.Need-loop-less Inv-loop μ-loop
-loop-less c = omega arith
-
 loop-again : tie.Need-loop-again Inv-loop μ-loop
 loop-again c = (omega arith, simp (c .more .ensures, c .before .has .ensures, c .before .before .before .loop .inv .1, counted-more))
 
@@ -52,15 +31,7 @@ pub counted-spec : {M : Type 1} → statement M
 counted-spec =
     tie.close
     (tie.spec
-    Inv-loop
-    μ-loop
-    loop-holds
-    array-read-n
-    cast-has
-    has-requires
-    more-requires
-    array-write-out
-    add-k
-    loop-less
-    loop-again
+    Inv-loop μ-loop loop-holds
+    (λ c. omega arith) (λ c. omega arith) (λ c κs. search needs) (λ c κs. search needs) (λ c. omega arith)
+    (λ c. omega arith) (λ c. omega arith) loop-again
     returns)

@@ -6,24 +6,6 @@ use borrow.Author.Needs.{needs}
 use Rattle.session.proofs.Session.after_capability.Statement.{statement}
 use Rattle.session.proofs.Session.after_capability.Tie as tie
 
-part-of-requires : tie.Need-part-of-requires
-part-of-requires c κs = search needs
-
-sac-list-requires : tie.Need-sac-list-requires
-sac-list-requires c κs = search needs
-
-takes-tac-requires : tie.Need-takes-tac-requires
-takes-tac-requires c κs = search needs
-
-part-of-requires-2 : tie.Need-part-of-requires-2
-part-of-requires-2 c κs = search needs
-
-list-after-requires : tie.Need-list-after-requires
-list-after-requires c κs = search needs
-
-flags-after-requires : tie.Need-flags-after-requires
-flags-after-requires c κs = search needs
-
 returns : tie.Need-returns
 unfolding afterCapability
 returns c = simp (sym (c .before .before .before .before .takes-tac .ensures) ∙ c .before .before .before .if1 .taken, c .flags-after .ensures, c .before .list-after .ensures, c .before .before .part-of2 .ensures, c .before .before .before .before .before .sac-list .ensures, c .before .before .before .before .before .before .part-of .ensures, pick-true)
@@ -36,11 +18,6 @@ pub after-capability-spec : {M : Type 1} → statement M
 after-capability-spec =
     tie.close
     (tie.spec
-    part-of-requires
-    sac-list-requires
-    takes-tac-requires
-    part-of-requires-2
-    list-after-requires
-    flags-after-requires
-    returns
+    (λ c κs. search needs) (λ c κs. search needs) (λ c κs. search needs) (λ c κs. search needs) (λ c κs. search needs)
+    (λ c κs. search needs) returns
     returns-2)

@@ -3,11 +3,8 @@ use borrow.Author.Needs.{needs}
 use Rattle.session.proofs.Session.already.Statement.{statement}
 use Rattle.session.proofs.Session.already.Tie as tie
 
-is-in-requires : tie.Need-is-in-requires
-is-in-requires c κs = search needs
-
 returns : tie.Need-returns
 returns c = simp (c .is-in .ensures)
 
 pub already-spec : {M : Type 1} → statement M
-already-spec = tie.close (tie.spec is-in-requires returns)
+already-spec = tie.close (tie.spec (λ c κs. search needs) returns)

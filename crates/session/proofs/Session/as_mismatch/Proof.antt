@@ -4,15 +4,9 @@ use borrow.Author.Needs.{needs}
 use Rattle.session.proofs.Session.as_mismatch.Statement.{statement}
 use Rattle.session.proofs.Session.as_mismatch.Tie as tie
 
-mismatched-requires : tie.Need-mismatched-requires
-mismatched-requires c κs = search needs
-
-answered-requires : tie.Need-answered-requires
-answered-requires c κs = search needs
-
 returns : tie.Need-returns
 unfolding settled
 returns c = simp (c .answered .ensures, c .before .mismatched .ensures)
 
 pub as-mismatch-spec : {M : Type 1} → statement M
-as-mismatch-spec = tie.close (tie.spec mismatched-requires answered-requires returns)
+as-mismatch-spec = tie.close (tie.spec (λ c κs. search needs) (λ c κs. search needs) returns)

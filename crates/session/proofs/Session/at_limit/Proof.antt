@@ -5,18 +5,9 @@ use borrow.Author.Needs.{needs}
 use Rattle.session.proofs.Session.at_limit.Statement.{statement}
 use Rattle.session.proofs.Session.at_limit.Tie as tie
 
-in-force-requires : tie.Need-in-force-requires
-in-force-requires c κs = search needs
-
-negotiated-requires : tie.Need-negotiated-requires
-negotiated-requires c κs = search needs
-
-common-requires : tie.Need-common-requires
-common-requires c κs = search needs
-
 returns : tie.Need-returns
 unfolding atLimit empty
 returns c = simp (c .common .ensures, c .before .negotiated .ensures, c .before .before .in-force .ensures)
 
 pub at-limit-spec : {M : Type 1} → statement M
-at-limit-spec = tie.close (tie.spec in-force-requires negotiated-requires common-requires returns)
+at-limit-spec = tie.close (tie.spec (λ c κs. search needs) (λ c κs. search needs) (λ c κs. search needs) returns)

@@ -8,41 +8,17 @@ use borrow.Author.Needs.{needs}
 use Rattle.session.proofs.Session.capability.Statement.{statement}
 use Rattle.session.proofs.Session.capability.Tie as tie
 
-sound-requires : tie.Need-sound-requires
-sound-requires c κs = search needs
-
-is-open-requires : tie.Need-is-open-requires
-is-open-requires c κs = search needs
-
-read-area-requires : tie.Need-read-area-requires
-read-area-requires c κs = search needs
-
-after-capability-requires : tie.Need-after-capability-requires
-after-capability-requires c κs = search needs
-
-negotiate-requires : tie.Need-negotiate-requires
-negotiate-requires c κs = search needs
-
 returns : tie.Need-returns
 unfolding settled onCapability
 returns c = simp (sym (c .before .before .before .before .before .before .before .before .sound .ensures) ∙ c .before .before .before .before .before .before .before .if1 .taken, sym (c .before .before .before .before .before .before .is-open .ensures) ∙ c .before .before .before .before .before .if2 .taken, eq-eqb _ _ (c .before .before .if3 .taken), c .negotiate .ensures, c .before .after-capability .ensures, sym (c .before .before .before .before .read-area .ensures), pick-true)
-
-refused-requires : tie.Need-refused-requires
-refused-requires c κs = search needs
 
 returns-2 : tie.Need-returns-2
 unfolding settled onCapability
 returns-2 c = simp (sym (c .before .before .before .before .before .before .before .sound .ensures) ∙ c .before .before .before .before .before .before .if1 .taken, sym (c .before .before .before .before .before .is-open .ensures) ∙ c .before .before .before .before .if2 .taken, ne-eqb _ _ (c .before .if3 .left), c .refused .ensures, sym (c .before .before .before .read-area .ensures), pick-true, pick-false)
 
-refused-requires-2 : tie.Need-refused-requires-2
-refused-requires-2 c κs = search needs
-
 returns-3 : tie.Need-returns-3
 unfolding settled onCapability
 returns-3 c = simp (sym (c .before .before .before .before .sound .ensures) ∙ c .before .before .before .if1 .taken, sym (c .before .before .is-open .ensures) ∙ c .before .if2 .left, c .refused2 .ensures, pick-true, pick-false)
-
-refused-requires-3 : tie.Need-refused-requires-3
-refused-requires-3 c κs = search needs
 
 returns-4 : tie.Need-returns-4
 unfolding settled onCapability
@@ -52,15 +28,8 @@ pub capability-spec : {M : Type 1} → statement M
 capability-spec =
     tie.close
     (tie.spec
-    sound-requires
-    is-open-requires
-    read-area-requires
-    after-capability-requires
-    negotiate-requires
+    (λ c κs. search needs) (λ c κs. search needs) (λ c κs. search needs) (λ c κs. search needs) (λ c κs. search needs)
     returns
-    refused-requires
-    returns-2
-    refused-requires-2
-    returns-3
-    refused-requires-3
-    returns-4)
+    (λ c κs. search needs) returns-2
+    (λ c κs. search needs) returns-3
+    (λ c κs. search needs) returns-4)

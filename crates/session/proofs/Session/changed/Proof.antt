@@ -3,14 +3,8 @@ use borrow.Author.Needs.{needs}
 use Rattle.session.proofs.Session.changed.Statement.{statement}
 use Rattle.session.proofs.Session.changed.Tie as tie
 
-held-to-ready-requires : tie.Need-held-to-ready-requires
-held-to-ready-requires c κs = search needs
-
-switched-requires : tie.Need-switched-requires
-switched-requires c κs = search needs
-
 returns : tie.Need-returns
 returns c = simp (c .switched .ensures, c .before .held-to-ready .ensures)
 
 pub changed-spec : {M : Type 1} → statement M
-changed-spec = tie.close (tie.spec held-to-ready-requires switched-requires returns)
+changed-spec = tie.close (tie.spec (λ c κs. search needs) (λ c κs. search needs) returns)

@@ -4,12 +4,9 @@ use borrow.Author.Needs.{needs}
 use Rattle.session.proofs.Session.done.Statement.{statement}
 use Rattle.session.proofs.Session.done.Tie as tie
 
-answered-requires : tie.Need-answered-requires
-answered-requires c κs = search needs
-
 returns : tie.Need-returns
 unfolding settled
 returns c = simp (c .answered .ensures)
 
 pub done-spec : {M : Type 1} → statement M
-done-spec = tie.close (tie.spec answered-requires returns)
+done-spec = tie.close (tie.spec (λ c κs. search needs) returns)

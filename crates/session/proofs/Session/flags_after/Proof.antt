@@ -7,18 +7,9 @@ use borrow.Author.Needs.{needs}
 use Rattle.session.proofs.Session.flags_after.Statement.{statement}
 use Rattle.session.proofs.Session.flags_after.Tie as tie
 
-s-bit-requires : tie.Need-s-bit-requires
-s-bit-requires c κs = search needs
-
-raised-requires : tie.Need-raised-requires
-raised-requires c κs = search needs
-
 returns : tie.Need-returns
 unfolding flagsAfter raised
 returns c = simp (sym (c .before .before .s-bit .ensures) ∙ c .before .if1 .taken, c .raised .ensures, pick-true)
-
-lowered-requires : tie.Need-lowered-requires
-lowered-requires c κs = search needs
 
 returns-2 : tie.Need-returns-2
 unfolding flagsAfter raised
@@ -26,4 +17,4 @@ returns-2 c = simp (sym (c .before .before .s-bit .ensures) ∙ c .before .if1 .
 
 pub flags-after-spec : {M : Type 1} → statement M
 flags-after-spec =
-    tie.close (tie.spec s-bit-requires raised-requires returns lowered-requires returns-2)
+    tie.close (tie.spec (λ c κs. search needs) (λ c κs. search needs) returns (λ c κs. search needs) returns-2)

@@ -5,18 +5,6 @@ use borrow.Author.Needs.{needs}
 use Rattle.session.proofs.Session.force_sound.Statement.{statement}
 use Rattle.session.proofs.Session.force_sound.Tie as tie
 
-is-open-requires : tie.Need-is-open-requires
-is-open-requires c κs = search needs
-
-uses-tac-requires : tie.Need-uses-tac-requires
-uses-tac-requires c κs = search needs
-
-negotiated-requires : tie.Need-negotiated-requires
-negotiated-requires c κs = search needs
-
-in-force-requires : tie.Need-in-force-requires
-in-force-requires c κs = search needs
-
 returns : tie.Need-returns
 unfolding forceSound empty
 returns c = simp (c .in-force .ensures, c .before .negotiated .ensures, c .before .before .uses-tac .ensures, c .before .before .before .is-open .ensures)
@@ -24,4 +12,4 @@ returns c = simp (c .in-force .ensures, c .before .negotiated .ensures, c .befor
 pub force-sound-spec : {M : Type 1} → statement M
 force-sound-spec =
     tie.close
-    (tie.spec is-open-requires uses-tac-requires negotiated-requires in-force-requires returns)
+    (tie.spec (λ c κs. search needs) (λ c κs. search needs) (λ c κs. search needs) (λ c κs. search needs) returns)

@@ -4,18 +4,6 @@ use borrow.Author.Needs.{needs}
 use Rattle.session.proofs.Session.gone_sound.Statement.{statement}
 use Rattle.session.proofs.Session.gone_sound.Tie as tie
 
-active-requires : tie.Need-active-requires
-active-requires c κs = search needs
-
-leaves-gone-requires : tie.Need-leaves-gone-requires
-leaves-gone-requires c κs = search needs
-
-recorded-requires : tie.Need-recorded-requires
-recorded-requires c κs = search needs
-
-is-gone-requires : tie.Need-is-gone-requires
-is-gone-requires c κs = search needs
-
 returns : tie.Need-returns
 unfolding goneSound
 returns c = simp (c .is-gone .ensures, c .before .recorded .ensures, c .before .before .leaves-gone .ensures, c .before .before .before .active .ensures)
@@ -23,4 +11,4 @@ returns c = simp (c .is-gone .ensures, c .before .recorded .ensures, c .before .
 pub gone-sound-spec : {M : Type 1} → statement M
 gone-sound-spec =
     tie.close
-    (tie.spec active-requires leaves-gone-requires recorded-requires is-gone-requires returns)
+    (tie.spec (λ c κs. search needs) (λ c κs. search needs) (λ c κs. search needs) (λ c κs. search needs) returns)

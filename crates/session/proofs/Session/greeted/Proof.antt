@@ -5,12 +5,9 @@ use borrow.Author.Needs.{needs}
 use Rattle.session.proofs.Session.greeted.Statement.{statement}
 use Rattle.session.proofs.Session.greeted.Tie as tie
 
-raised-requires : tie.Need-raised-requires
-raised-requires c κs = search needs
-
 returns : tie.Need-returns
 unfolding raised
 returns c = simp (c .raised .ensures, pick-true)
 
 pub greeted-spec : {M : Type 1} → statement M
-greeted-spec = tie.close (tie.spec raised-requires returns)
+greeted-spec = tie.close (tie.spec (λ c κs. search needs) returns)

@@ -4,19 +4,10 @@ use borrow.Author.Needs.{needs}
 use Rattle.session.proofs.Session.held_sound.Statement.{statement}
 use Rattle.session.proofs.Session.held_sound.Tie as tie
 
-active-requires : tie.Need-active-requires
-active-requires c κs = search needs
-
-leaves-gone-requires : tie.Need-leaves-gone-requires
-leaves-gone-requires c κs = search needs
-
-is-held-requires : tie.Need-is-held-requires
-is-held-requires c κs = search needs
-
 returns : tie.Need-returns
 unfolding heldSound
 returns c = simp (c .is-held .ensures, c .before .leaves-gone .ensures, c .before .before .active .ensures)
 
 pub held-sound-spec : {M : Type 1} → statement M
 held-sound-spec =
-    tie.close (tie.spec active-requires leaves-gone-requires is-held-requires returns)
+    tie.close (tie.spec (λ c κs. search needs) (λ c κs. search needs) (λ c κs. search needs) returns)

@@ -6,9 +6,6 @@ use borrow.Author.Needs.{needs}
 use Rattle.session.proofs.Session.held_to_ready.Statement.{statement}
 use Rattle.session.proofs.Session.held_to_ready.Tie as tie
 
-is-held-requires : tie.Need-is-held-requires
-is-held-requires c κs = search needs
-
 returns : tie.Need-returns
 unfolding heldToReady
 returns c = simp (sym (c .before .is-held .ensures) ∙ c .if1 .taken, pick-true)
@@ -18,4 +15,4 @@ unfolding heldToReady
 returns-2 c = simp (sym (c .before .is-held .ensures) ∙ c .if1 .left, pick-false)
 
 pub held-to-ready-spec : {M : Type 1} → statement M
-held-to-ready-spec = tie.close (tie.spec is-held-requires returns returns-2)
+held-to-ready-spec = tie.close (tie.spec (λ c κs. search needs) returns returns-2)

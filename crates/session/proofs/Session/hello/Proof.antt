@@ -8,57 +8,21 @@ use borrow.Author.Needs.{needs}
 use Rattle.session.proofs.Session.hello.Statement.{statement}
 use Rattle.session.proofs.Session.hello.Tie as tie
 
-sound-requires : tie.Need-sound-requires
-sound-requires c κs = search needs
-
-is-gone-requires : tie.Need-is-gone-requires
-is-gone-requires c κs = search needs
-
-greeted-requires : tie.Need-greeted-requires
-greeted-requires c κs = search needs
-
-done-requires : tie.Need-done-requires
-done-requires c κs = search needs
-
 returns : tie.Need-returns
 unfolding settled onHello
 returns c = simp (sym (c .before .before .before .before .before .sound .ensures) ∙ c .before .before .before .before .if1 .taken, sym (c .before .before .before .is-gone .ensures) ∙ c .before .before .if2 .taken, c .done .ensures, c .before .greeted .ensures, pick-true)
-
-recorded-requires : tie.Need-recorded-requires
-recorded-requires c κs = search needs
-
-greeted-requires-2 : tie.Need-greeted-requires-2
-greeted-requires-2 c κs = search needs
-
-done-requires-2 : tie.Need-done-requires-2
-done-requires-2 c κs = search needs
 
 returns-2 : tie.Need-returns-2
 unfolding settled onHello
 returns-2 c = simp (sym (c .before .before .before .before .before .before .before .sound .ensures) ∙ c .before .before .before .before .before .before .if1 .taken, sym (c .before .before .before .before .before .is-gone .ensures) ∙ c .before .before .before .before .if2 .left, simp (c .before .before .before .recorded .ensures) at (c .before .before .if3 .taken), c .done2 .ensures, c .before .greeted2 .ensures, pick-true, pick-false)
 
-held-to-ready-requires : tie.Need-held-to-ready-requires
-held-to-ready-requires c κs = search needs
-
-greeted-requires-3 : tie.Need-greeted-requires-3
-greeted-requires-3 c κs = search needs
-
-done-requires-3 : tie.Need-done-requires-3
-done-requires-3 c κs = search needs
-
 returns-3 : tie.Need-returns-3
 unfolding settled onHello
 returns-3 c = simp (sym (c .before .before .before .before .before .before .before .before .before .before .sound .ensures) ∙ c .before .before .before .before .before .before .before .before .before .if1 .taken, sym (c .before .before .before .before .before .before .before .before .is-gone .ensures) ∙ c .before .before .before .before .before .before .before .if2 .left, simp (c .before .before .before .before .before .before .recorded .ensures) at (c .before .before .before .before .before .if3 .left), lt-ltb _ _ (c .before .before .before .if4 .taken), c .done3 .ensures, c .before .greeted3 .ensures, c .before .before .held-to-ready .ensures, pick-true, pick-false)
 
-unchanged-requires : tie.Need-unchanged-requires
-unchanged-requires c κs = search needs
-
 returns-4 : tie.Need-returns-4
 unfolding settled onHello
 returns-4 c = simp (sym (c .before .before .before .before .before .before .before .before .sound .ensures) ∙ c .before .before .before .before .before .before .before .if1 .taken, sym (c .before .before .before .before .before .before .is-gone .ensures) ∙ c .before .before .before .before .before .if2 .left, simp (c .before .before .before .before .recorded .ensures) at (c .before .before .before .if3 .left), le-ltb _ _ (c .before .if4 .left), c .unchanged .ensures, pick-true, pick-false)
-
-refused-requires : tie.Need-refused-requires
-refused-requires c κs = search needs
 
 returns-5 : tie.Need-returns-5
 unfolding settled onHello
@@ -68,20 +32,8 @@ pub hello-spec : {M : Type 1} → statement M
 hello-spec =
     tie.close
     (tie.spec
-    sound-requires
-    is-gone-requires
-    greeted-requires
-    done-requires
-    returns
-    recorded-requires
-    greeted-requires-2
-    done-requires-2
-    returns-2
-    held-to-ready-requires
-    greeted-requires-3
-    done-requires-3
-    returns-3
-    unchanged-requires
-    returns-4
-    refused-requires
-    returns-5)
+    (λ c κs. search needs) (λ c κs. search needs) (λ c κs. search needs) (λ c κs. search needs) returns
+    (λ c κs. search needs) (λ c κs. search needs) (λ c κs. search needs) returns-2
+    (λ c κs. search needs) (λ c κs. search needs) (λ c κs. search needs) returns-3
+    (λ c κs. search needs) returns-4
+    (λ c κs. search needs) returns-5)

@@ -4,12 +4,9 @@ use borrow.Author.Needs.{needs}
 use Rattle.session.proofs.Session.hello_sound.Statement.{statement}
 use Rattle.session.proofs.Session.hello_sound.Tie as tie
 
-recorded-requires : tie.Need-recorded-requires
-recorded-requires c κs = search needs
-
 returns : tie.Need-returns
 unfolding helloSound
 returns c = simp (c .before .recorded .ensures)
 
 pub hello-sound-spec : {M : Type 1} → statement M
-hello-sound-spec = tie.close (tie.spec recorded-requires returns)
+hello-sound-spec = tie.close (tie.spec (λ c κs. search needs) returns)

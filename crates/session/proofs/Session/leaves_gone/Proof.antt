@@ -3,14 +3,8 @@ use borrow.Author.Needs.{needs}
 use Rattle.session.proofs.Session.leaves_gone.Statement.{statement}
 use Rattle.session.proofs.Session.leaves_gone.Tie as tie
 
-initiating-requires : tie.Need-initiating-requires
-initiating-requires c κs = search needs
-
-drops-requires : tie.Need-drops-requires
-drops-requires c κs = search needs
-
 returns : tie.Need-returns
 returns c = simp (c .drops .ensures, c .before .initiating .ensures)
 
 pub leaves-gone-spec : {M : Type 1} → statement M
-leaves-gone-spec = tie.close (tie.spec initiating-requires drops-requires returns)
+leaves-gone-spec = tie.close (tie.spec (λ c κs. search needs) (λ c κs. search needs) returns)

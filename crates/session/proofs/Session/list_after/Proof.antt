@@ -6,21 +6,9 @@ use borrow.Author.Needs.{needs}
 use Rattle.session.proofs.Session.list_after.Statement.{statement}
 use Rattle.session.proofs.Session.list_after.Tie as tie
 
-s-bit-requires : tie.Need-s-bit-requires
-s-bit-requires c κs = search needs
-
-in-force-requires : tie.Need-in-force-requires
-in-force-requires c κs = search needs
-
-tac-list-requires : tie.Need-tac-list-requires
-tac-list-requires c κs = search needs
-
 returns : tie.Need-returns
 unfolding listAfter
 returns c = simp (sym (c .before .before .before .before .s-bit .ensures) ∙ c .before .before .before .if1 .taken, sym (c .before .before .in-force .ensures) ∙ c .before .if2 .taken, c .tac-list .ensures, pick-true)
-
-tac-list-requires-2 : tie.Need-tac-list-requires-2
-tac-list-requires-2 c κs = search needs
 
 returns-2 : tie.Need-returns-2
 unfolding listAfter
@@ -34,10 +22,6 @@ pub list-after-spec : {M : Type 1} → statement M
 list-after-spec =
     tie.close
     (tie.spec
-    s-bit-requires
-    in-force-requires
-    tac-list-requires
-    returns
-    tac-list-requires-2
-    returns-2
+    (λ c κs. search needs) (λ c κs. search needs) (λ c κs. search needs) returns
+    (λ c κs. search needs) returns-2
     returns-3)

@@ -5,12 +5,9 @@ use borrow.Author.Needs.{needs}
 use Rattle.session.proofs.Session.listed_sound.Statement.{statement}
 use Rattle.session.proofs.Session.listed_sound.Tie as tie
 
-in-force-requires : tie.Need-in-force-requires
-in-force-requires c κs = search needs
-
 returns : tie.Need-returns
 unfolding listedSound empty
 returns c = simp (c .before .in-force .ensures)
 
 pub listed-sound-spec : {M : Type 1} → statement M
-listed-sound-spec = tie.close (tie.spec in-force-requires returns)
+listed-sound-spec = tie.close (tie.spec (λ c κs. search needs) returns)

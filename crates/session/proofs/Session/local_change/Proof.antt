@@ -7,41 +7,17 @@ use borrow.Author.Needs.{needs}
 use Rattle.session.proofs.Session.local_change.Statement.{statement}
 use Rattle.session.proofs.Session.local_change.Tie as tie
 
-sound-requires : tie.Need-sound-requires
-sound-requires c κs = search needs
-
-is-known-requires : tie.Need-is-known-requires
-is-known-requires c κs = search needs
-
-already-requires : tie.Need-already-requires
-already-requires c κs = search needs
-
-unchanged-requires : tie.Need-unchanged-requires
-unchanged-requires c κs = search needs
-
 returns : tie.Need-returns
 unfolding settled onLocalChange
 returns c = simp (sym (c .before .before .before .before .before .before .sound .ensures) ∙ c .before .before .before .before .before .if1 .taken, sym (c .before .before .before .before .is-known .ensures) ∙ c .before .before .before .if2 .taken, sym (c .before .before .already .ensures) ∙ c .before .if3 .taken, c .unchanged .ensures, pick-true)
-
-changed-requires : tie.Need-changed-requires
-changed-requires c κs = search needs
-
-writing-requires : tie.Need-writing-requires
-writing-requires c κs = search needs
 
 returns-2 : tie.Need-returns-2
 unfolding settled onLocalChange
 returns-2 c = simp (sym (c .before .before .before .before .before .before .before .sound .ensures) ∙ c .before .before .before .before .before .before .if1 .taken, sym (c .before .before .before .before .before .is-known .ensures) ∙ c .before .before .before .before .if2 .taken, sym (c .before .before .before .already .ensures) ∙ c .before .before .if3 .left, c .writing .ensures, c .before .changed .ensures, pick-true, pick-false)
 
-refused-requires : tie.Need-refused-requires
-refused-requires c κs = search needs
-
 returns-3 : tie.Need-returns-3
 unfolding settled onLocalChange
 returns-3 c = simp (sym (c .before .before .before .before .sound .ensures) ∙ c .before .before .before .if1 .taken, sym (c .before .before .is-known .ensures) ∙ c .before .if2 .left, c .refused .ensures, pick-true, pick-false)
-
-refused-requires-2 : tie.Need-refused-requires-2
-refused-requires-2 c κs = search needs
 
 returns-4 : tie.Need-returns-4
 unfolding settled onLocalChange
@@ -51,15 +27,7 @@ pub local-change-spec : {M : Type 1} → statement M
 local-change-spec =
     tie.close
     (tie.spec
-    sound-requires
-    is-known-requires
-    already-requires
-    unchanged-requires
-    returns
-    changed-requires
-    writing-requires
-    returns-2
-    refused-requires
-    returns-3
-    refused-requires-2
-    returns-4)
+    (λ c κs. search needs) (λ c κs. search needs) (λ c κs. search needs) (λ c κs. search needs) returns
+    (λ c κs. search needs) (λ c κs. search needs) returns-2
+    (λ c κs. search needs) returns-3
+    (λ c κs. search needs) returns-4)

@@ -6,28 +6,13 @@ use borrow.Author.Needs.{needs}
 use Rattle.session.proofs.Session.mismatched.Statement.{statement}
 use Rattle.session.proofs.Session.mismatched.Tie as tie
 
-active-requires : tie.Need-active-requires
-active-requires c κs = search needs
-
-leaves-gone-requires : tie.Need-leaves-gone-requires
-leaves-gone-requires c κs = search needs
-
-out-of-open-requires : tie.Need-out-of-open-requires
-out-of-open-requires c κs = search needs
-
 returns : tie.Need-returns
 unfolding mismatched
 returns c = simp (sym (c .before .before .before .before .active .ensures) ∙ c .before .before .before .if1 .taken, sym (c .before .before .leaves-gone .ensures) ∙ c .before .if2 .taken, c .out-of-open .ensures, pick-true)
 
-out-of-open-requires-2 : tie.Need-out-of-open-requires-2
-out-of-open-requires-2 c κs = search needs
-
 returns-2 : tie.Need-returns-2
 unfolding mismatched
 returns-2 c = simp (sym (c .before .before .before .before .active .ensures) ∙ c .before .before .before .if1 .taken, sym (c .before .before .leaves-gone .ensures) ∙ c .before .if2 .left, c .out-of-open2 .ensures, pick-true, pick-false)
-
-back-to-ready-requires : tie.Need-back-to-ready-requires
-back-to-ready-requires c κs = search needs
 
 returns-3 : tie.Need-returns-3
 unfolding mismatched
@@ -37,11 +22,6 @@ pub mismatched-spec : {M : Type 1} → statement M
 mismatched-spec =
     tie.close
     (tie.spec
-    active-requires
-    leaves-gone-requires
-    out-of-open-requires
-    returns
-    out-of-open-requires-2
-    returns-2
-    back-to-ready-requires
-    returns-3)
+    (λ c κs. search needs) (λ c κs. search needs) (λ c κs. search needs) returns
+    (λ c κs. search needs) returns-2
+    (λ c κs. search needs) returns-3)

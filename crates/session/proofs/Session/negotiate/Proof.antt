@@ -6,18 +6,9 @@ use borrow.Author.Needs.{needs}
 use Rattle.session.proofs.Session.negotiate.Statement.{statement}
 use Rattle.session.proofs.Session.negotiate.Tie as tie
 
-nothing-common-requires : tie.Need-nothing-common-requires
-nothing-common-requires c κs = search needs
-
-as-mismatch-requires : tie.Need-as-mismatch-requires
-as-mismatch-requires c κs = search needs
-
 returns : tie.Need-returns
 unfolding settled
 returns c = simp (sym (c .before .before .nothing-common .ensures) ∙ c .before .if1 .taken, c .as-mismatch .ensures, pick-true)
-
-done-requires : tie.Need-done-requires
-done-requires c κs = search needs
 
 returns-2 : tie.Need-returns-2
 unfolding settled
@@ -26,4 +17,4 @@ returns-2 c = simp (sym (c .before .before .nothing-common .ensures) ∙ c .befo
 pub negotiate-spec : {M : Type 1} → statement M
 negotiate-spec =
     tie.close
-    (tie.spec nothing-common-requires as-mismatch-requires returns done-requires returns-2)
+    (tie.spec (λ c κs. search needs) (λ c κs. search needs) returns (λ c κs. search needs) returns-2)

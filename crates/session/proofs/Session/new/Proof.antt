@@ -10,9 +10,6 @@ use borrow.Author.Needs.{needs}
 use Rattle.session.proofs.Session.new.Statement.{statement}
 use Rattle.session.proofs.Session.new.Tie as tie
 
-roles-requires : tie.Need-roles-requires
-roles-requires c κs = search needs
-
 cast-t12 : tie.Need-cast-t12
 cast-t12 c = omega (arith, ltb-true (c .before .before .args .enabled) 8192 (and-second (ltb (c .before .before .args .protects) 1024) (ltb (c .before .before .args .enabled) 8192) (c .if1 .taken)))
 
@@ -28,4 +25,4 @@ unfolding created below
 returns-2 c = simp (c .if1 .left, pick-false)
 
 pub new-spec : {M : Type 1} → statement M
-new-spec = tie.close (tie.spec roles-requires cast-t12 cast-t13 returns returns-2)
+new-spec = tie.close (tie.spec (λ c κs. search needs) cast-t12 cast-t13 returns returns-2)

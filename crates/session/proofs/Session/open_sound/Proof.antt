@@ -5,15 +5,9 @@ use borrow.Author.Needs.{needs}
 use Rattle.session.proofs.Session.open_sound.Statement.{statement}
 use Rattle.session.proofs.Session.open_sound.Tie as tie
 
-dynamic-requires : tie.Need-dynamic-requires
-dynamic-requires c κs = search needs
-
-is-open-requires : tie.Need-is-open-requires
-is-open-requires c κs = search needs
-
 returns : tie.Need-returns
 unfolding openSound empty
 returns c = simp (c .is-open .ensures, c .before .dynamic .ensures)
 
 pub open-sound-spec : {M : Type 1} → statement M
-open-sound-spec = tie.close (tie.spec dynamic-requires is-open-requires returns)
+open-sound-spec = tie.close (tie.spec (λ c κs. search needs) (λ c κs. search needs) returns)

@@ -3,11 +3,8 @@ use borrow.Author.Needs.{needs}
 use Rattle.session.proofs.Session.out_of_open.Statement.{statement}
 use Rattle.session.proofs.Session.out_of_open.Tie as tie
 
-lowered-requires : tie.Need-lowered-requires
-lowered-requires c κs = search needs
-
 returns : tie.Need-returns
 returns c = simp (c .lowered .ensures)
 
 pub out-of-open-spec : {M : Type 1} → statement M
-out-of-open-spec = tie.close (tie.spec lowered-requires returns)
+out-of-open-spec = tie.close (tie.spec (λ c κs. search needs) returns)

@@ -7,18 +7,6 @@ use borrow.Author.Needs.{needs}
 use Rattle.session.proofs.Session.permission.Statement.{statement}
 use Rattle.session.proofs.Session.permission.Tie as tie
 
-sound-requires : tie.Need-sound-requires
-sound-requires c κs = search needs
-
-permitted-requires : tie.Need-permitted-requires
-permitted-requires c κs = search needs
-
-cast-has : tie.Need-cast-has
-cast-has c = search needs
-
-has-requires : tie.Need-has-requires
-has-requires c κs = search needs
-
 returns : tie.Need-returns
 unfolding permission
 returns c = simp (sym (c .before .before .before .before .before .sound .ensures) ∙ c .before .before .before .before .if1 .taken, lt-ltb _ _ (c .before .before .before .if2 .taken), sym (c .before .has .ensures) ∙ c .if3 .taken, sym (c .before .before .permitted .ensures), pick-true)
@@ -39,11 +27,7 @@ pub permission-spec : {M : Type 1} → statement M
 permission-spec =
     tie.close
     (tie.spec
-    sound-requires
-    permitted-requires
-    cast-has
-    has-requires
-    returns
+    (λ c κs. search needs) (λ c κs. search needs) (λ c. search needs) (λ c κs. search needs) returns
     returns-2
     returns-3
     returns-4)

@@ -6,12 +6,6 @@ use borrow.Author.Needs.{needs}
 use Rattle.session.proofs.Session.permitted_kinds.Statement.{statement}
 use Rattle.session.proofs.Session.permitted_kinds.Tie as tie
 
-sound-requires : tie.Need-sound-requires
-sound-requires c κs = search needs
-
-permitted-requires : tie.Need-permitted-requires
-permitted-requires c κs = search needs
-
 returns : tie.Need-returns
 unfolding permittedKinds
 returns c = simp (sym (c .before .before .sound .ensures) ∙ c .before .if1 .taken, c .permitted .ensures, pick-true)
@@ -21,4 +15,4 @@ unfolding permittedKinds
 returns-2 c = simp (sym (c .before .sound .ensures) ∙ c .if1 .left, pick-false)
 
 pub permitted-kinds-spec : {M : Type 1} → statement M
-permitted-kinds-spec = tie.close (tie.spec sound-requires permitted-requires returns returns-2)
+permitted-kinds-spec = tie.close (tie.spec (λ c κs. search needs) (λ c κs. search needs) returns returns-2)

@@ -6,12 +6,6 @@ use borrow.Author.Needs.{needs}
 use Rattle.session.proofs.Session.retry_interval.Statement.{statement}
 use Rattle.session.proofs.Session.retry_interval.Tie as tie
 
-sound-requires : tie.Need-sound-requires
-sound-requires c κs = search needs
-
-is-held-requires : tie.Need-is-held-requires
-is-held-requires c κs = search needs
-
 returns : tie.Need-returns
 unfolding retryInterval
 returns c = simp (sym (c .before .before .before .sound .ensures) ∙ c .before .before .if1 .taken, sym (c .before .is-held .ensures) ∙ c .if2 .taken, pick-true)
@@ -26,4 +20,4 @@ returns-3 c = simp (sym (c .before .sound .ensures) ∙ c .if1 .left, pick-false
 
 pub retry-interval-spec : {M : Type 1} → statement M
 retry-interval-spec =
-    tie.close (tie.spec sound-requires is-held-requires returns returns-2 returns-3)
+    tie.close (tie.spec (λ c κs. search needs) (λ c κs. search needs) returns returns-2 returns-3)

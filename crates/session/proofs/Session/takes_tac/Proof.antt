@@ -3,11 +3,8 @@ use borrow.Author.Needs.{needs}
 use Rattle.session.proofs.Session.takes_tac.Statement.{statement}
 use Rattle.session.proofs.Session.takes_tac.Tie as tie
 
-uses-tac-requires : tie.Need-uses-tac-requires
-uses-tac-requires c κs = search needs
-
 returns : tie.Need-returns
 returns c = simp (c .before .uses-tac .ensures)
 
 pub takes-tac-spec : {M : Type 1} → statement M
-takes-tac-spec = tie.close (tie.spec uses-tac-requires returns)
+takes-tac-spec = tie.close (tie.spec (λ c κs. search needs) returns)

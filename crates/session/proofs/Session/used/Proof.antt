@@ -5,15 +5,6 @@ use borrow.Author.Needs.{needs}
 use Rattle.session.proofs.Session.used.Statement.{statement}
 use Rattle.session.proofs.Session.used.Tie as tie
 
-is-open-requires : tie.Need-is-open-requires
-is-open-requires c κs = search needs
-
-in-force-requires : tie.Need-in-force-requires
-in-force-requires c κs = search needs
-
-negotiated-requires : tie.Need-negotiated-requires
-negotiated-requires c κs = search needs
-
 returns : tie.Need-returns
 unfolding used
 returns c = simp (simp (c .before .before .in-force .ensures, c .before .before .before .is-open .ensures) at (c .before .if1 .taken), c .negotiated .ensures, pick-true)
@@ -24,4 +15,4 @@ returns-2 c = simp (simp (c .before .in-force .ensures, c .before .before .is-op
 
 pub used-spec : {M : Type 1} → statement M
 used-spec =
-    tie.close (tie.spec is-open-requires in-force-requires negotiated-requires returns returns-2)
+    tie.close (tie.spec (λ c κs. search needs) (λ c κs. search needs) (λ c κs. search needs) returns returns-2)

@@ -3,11 +3,8 @@ use borrow.Author.Needs.{needs}
 use Rattle.session.proofs.Session.with_next_number.Statement.{statement}
 use Rattle.session.proofs.Session.with_next_number.Tie as tie
 
-wrapping-add-u32-requires : tie.Need-wrapping-add-u32-requires
-wrapping-add-u32-requires c κs = search needs
-
 returns : tie.Need-returns
 returns c = simp (c .wrapping-add-u32 .ensures)
 
 pub with-next-number-spec : {M : Type 1} → statement M
-with-next-number-spec = tie.close (tie.spec wrapping-add-u32-requires returns)
+with-next-number-spec = tie.close (tie.spec (λ c κs. search needs) returns)

@@ -8,41 +8,17 @@ use borrow.Author.Needs.{needs}
 use Rattle.session.proofs.Session.writing.Statement.{statement}
 use Rattle.session.proofs.Session.writing.Tie as tie
 
-is-open-requires : tie.Need-is-open-requires
-is-open-requires c κs = search needs
-
-uses-tac-requires : tie.Need-uses-tac-requires
-uses-tac-requires c κs = search needs
-
-dynamic-requires : tie.Need-dynamic-requires
-dynamic-requires c κs = search needs
-
-cast-send : tie.Need-cast-send
-cast-send c = search needs
-
-send-requires : tie.Need-send-requires
-send-requires c κs = search needs
-
 returns : tie.Need-returns
 unfolding settled writing
 returns c = simp (simp (c .before .before .before .before .before .before .is-open .ensures, c .before .before .before .before .before .uses-tac .ensures) at (c .before .before .before .before .if1 .taken), sym (c .before .before .before .dynamic .ensures) ∙ c .before .before .if2 .taken, le-leb _ _ (c .before .if3 .taken), c .send .ensures, pick-true)
-
-refused-requires : tie.Need-refused-requires
-refused-requires c κs = search needs
 
 returns-2 : tie.Need-returns-2
 unfolding settled writing
 returns-2 c = simp (simp (c .before .before .before .before .before .before .is-open .ensures, c .before .before .before .before .before .uses-tac .ensures) at (c .before .before .before .before .if1 .taken), sym (c .before .before .before .dynamic .ensures) ∙ c .before .before .if2 .taken, lt-leb _ _ (c .before .if3 .left), c .refused .ensures, pick-true, pick-false)
 
-refused-requires-2 : tie.Need-refused-requires-2
-refused-requires-2 c κs = search needs
-
 returns-3 : tie.Need-returns-3
 unfolding settled writing
 returns-3 c = simp (simp (c .before .before .before .before .before .is-open .ensures, c .before .before .before .before .uses-tac .ensures) at (c .before .before .before .if1 .taken), sym (c .before .before .dynamic .ensures) ∙ c .before .if2 .left, c .refused2 .ensures, pick-true, pick-false)
-
-done-requires : tie.Need-done-requires
-done-requires c κs = search needs
 
 returns-4 : tie.Need-returns-4
 unfolding settled writing
@@ -52,15 +28,8 @@ pub writing-spec : {M : Type 1} → statement M
 writing-spec =
     tie.close
     (tie.spec
-    is-open-requires
-    uses-tac-requires
-    dynamic-requires
-    cast-send
-    send-requires
+    (λ c κs. search needs) (λ c κs. search needs) (λ c κs. search needs) (λ c. search needs) (λ c κs. search needs)
     returns
-    refused-requires
-    returns-2
-    refused-requires-2
-    returns-3
-    done-requires
-    returns-4)
+    (λ c κs. search needs) returns-2
+    (λ c κs. search needs) returns-3
+    (λ c κs. search needs) returns-4)

@@ -4,9 +4,6 @@ use borrow.Author.Needs.{needs}
 use Rattle.session.proofs.initialization.list_of.Statement.{statement}
 use Rattle.session.proofs.initialization.list_of.Tie as tie
 
-tac-list-requires : tie.Need-tac-list-requires
-tac-list-requires c κs = search needs
-
 returns : tie.Need-returns
 returns c = simp (c .before .if1 .taken, c .tac-list .ensures, pick-true)
 
@@ -14,4 +11,4 @@ returns-2 : tie.Need-returns-2
 returns-2 c = simp (c .if1 .left, pick-false)
 
 pub list-of-spec : {M : Type 1} → statement M
-list-of-spec = tie.close (tie.spec tac-list-requires returns returns-2)
+list-of-spec = tie.close (tie.spec (λ c κs. search needs) returns returns-2)
