@@ -1,6 +1,6 @@
 //! What is worth noting of a call beside its refusal and its outcome.
 
-use crate::call::{Ask, Call, RowEvent, Said, Seen};
+use crate::call::{Call, Said, Seen};
 use crate::tally::Place::{self, Outside, Ready, Unsound};
 use crate::{records, rows};
 use second::{Answer, Fields};
@@ -37,11 +37,11 @@ fn such(notes: &[(&'static str, bool)]) -> Vec<&'static str> {
 
 /// What stands out of a row and of the limits that it is handed with.
 pub fn of_row(call: &Call, before: Place, seen: &Seen) -> Vec<&'static str> {
-    let Ask::RowEvent(event) = &call.ask else {
+    if call.row_event().is_none() {
         return Vec::new();
-    };
+    }
     let row = &call.row;
-    let (length, at) = (row.len() as u64, event.at);
+    let (length, at) = (row.len() as u64, call.at);
     let sound = |session: &Fields| Place::of_session(session) != Unsound;
     let unsound = row.iter().filter(|session| !sound(session)).count();
     let here = row.get(at as usize).filter(|_| at < length);
@@ -72,27 +72,28 @@ pub fn of_row(call: &Call, before: Place, seen: &Seen) -> Vec<&'static str> {
             "10, by the last session",
             before == Unsound && unsound == 1 && !row.last().is_some_and(sound),
         ),
-        ("on by a number over 1", event.event.on > 1),
+        ("on by a number over 1", call.event.on > 1),
     ]);
     if let (Ready, Said::Answer(answer)) = (before, &seen.said) {
-        notes.extend(of_limits(event, row, answer, &seen.row[at as usize]));
+        notes.extend(of_limits(call, answer, &seen.left.row[at as usize]));
     }
     notes
 }
 
 /// How near to their limits an Initialization finds the common applications.
-fn of_limits(event: &RowEvent, row: &[Fields], answer: &Answer, is: &Fields) -> Vec<&'static str> {
-    if event.event.which != 0 || answer.refusal != 0 {
+fn of_limits(call: &Call, answer: &Answer, is: &Fields) -> Vec<&'static str> {
+    if call.row_event() != Some(0) || answer.refusal != 0 {
         return Vec::new();
     }
-    let all_0 = event.limits.of == [0; 13];
-    let counts = rows::counts(row);
+    let limits = &call.limits.of;
+    let all_0 = *limits == [0; 13];
+    let counts = rows::counts(&call.row);
     // What a session that opened has in common; places left are negative where
     // a count has passed its limit.
     let common = is.enabled & is.listed;
     let left: Vec<(u8, i32)> = (0..13)
         .filter(|bit| common >> bit & 1 == 1)
-        .map(|bit| (event.limits.of[bit], counts[bit]))
+        .map(|bit| (limits[bit], counts[bit]))
         .map(|(limit, count)| (limit, i32::from(limit.min(64)) - i32::from(count)))
         .collect();
     let most = left.iter().map(|(_, left)| *left).max();
@@ -102,7 +103,7 @@ fn of_limits(event: &RowEvent, row: &[Fields], answer: &Answer, is: &Fields) -> 
         ("at limit, all limits 0", outcome == 3 && all_0),
         (
             "at limit, none 0",
-            outcome == 3 && !event.limits.of.contains(&0),
+            outcome == 3 && !limits.contains(&0),
         ),
         (
             "at limit, 63 others open",

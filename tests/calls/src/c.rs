@@ -1,0 +1,276 @@
+//! The C header.
+
+use crate::table::{each, joined, Call, Field, Struct, Table, Type};
+
+pub fn header(table: &Table) -> String {
+    let buffers = joined(table.buffers(), ", ", |buffer| buffer.name.to_uppercase());
+    let numbers = joined(&table.calls, ", ", |call| call.name.to_uppercase());
+    let names = joined(&table.calls, ", ", |call| format!("\"{}\"", call.name));
+    let longest = table.longest_answer();
+    let taken = masks(table, |_| true);
+    let written = masks(table, |argument| argument.written);
+    let given = each(table.arguments(), |argument| match argument.kind.is_lent() {
+        true => String::new(),
+        false => format!("    {};\n", declared(&argument.kind, &argument.name)),
+    });
+    let structs = each(&table.structs, |each| octets_of(table, each));
+    let pointers = each(&table.calls, |call| pointer(table, call));
+    let members = joined(&table.calls, ", ", |call| format!("word##_{}", call.name));
+    let signatures = each(&table.calls, |call| signature(table, call));
+    let declarations = each(&table.calls, |call| format!(" \\\n    SIGNATURE_{}(word);", call.name));
+    let nothing = each(&table.calls, |call| does_nothing(table, call));
+    let takes = each(&table.calls, take_call);
+    let shows = each(&table.calls, |call| show_call(table, call));
+    let makes = each(&table.calls, |call| make_call(table, call));
+    format!(
+        r#"/* calls.h - the calls of the library as values; made of tests/calls/calls.txt */
+#ifndef CALLS_H
+#define CALLS_H
+
+#include "octets.h"
+#include "tacit.h"
+
+enum call {{ {numbers}, CALLS }};
+enum buffer {{ {buffers}, BUFFERS }};
+enum {{ SAID = {longest} }}; /* octets of the longest answer, field behind field */
+
+static const char *const call_names[CALLS] = {{{names}}};
+
+/* The buffers that each call is lent, and those that it may write, a bit for each. */
+static const unsigned lent_to[CALLS] = {{{taken}}};
+static const unsigned written_by[CALLS] = {{{written}}};
+
+/* All that a call can be given; each takes its own. A row is the fields of its sessions. */
+struct given {{
+    uint8_t call;
+    bool null; /* lend empty buffers as NULL */
+    struct octets lent[BUFFERS];
+{given}}};
+
+/* Where what a call is given is taken from. */
+struct source {{
+    bool (*flag)(struct source *source);
+    uint64_t (*number)(struct source *source, int octets);
+    struct octets (*buffer)(struct source *source, enum buffer which);
+}};
+{structs}
+struct calls {{
+{pointers}}};
+
+/* The calls whose names begin with this word. */
+#define CALLS_OF(word) {{{members}}}
+
+/* Each call's result, name and parameters, and the parameters passed on. */
+{signatures}
+#define DECLARE_CALLS(word){declarations}
+
+/* Calls with the same parameters that do nothing. */
+#define CALLS_THAT_DO_NOTHING(word){nothing}
+
+static inline void take_given(struct given *given, struct source *source)
+{{
+    switch ((enum call)given->call) {{
+{takes}    case CALLS:
+        break;
+    }}
+}}
+
+/* Hands over all that a call is given, as octets. */
+static inline void show_given(const struct given *given,
+                              void (*show)(const char *name, const uint8_t *octets, size_t length))
+{{
+    uint8_t octets[64];
+    switch ((enum call)given->call) {{
+{shows}    case CALLS:
+        break;
+    }}
+}}
+
+/* Makes a call with its buffers at these places, of the lengths that are given. */
+static inline void make_call(const struct calls *calls, const struct given *given,
+                             void *const at[BUFFERS], uint8_t *said)
+{{
+    memset(said, 0, SAID);
+    switch ((enum call)given->call) {{
+{makes}    case CALLS:
+        break;
+    }}
+}}
+
+#endif
+"#
+    )
+}
+
+fn masks(table: &Table, such: impl Fn(&Field) -> bool) -> String {
+    let buffers = table.buffers();
+    joined(&table.calls, ", ", |call| {
+        let bit = |argument: &Field| buffers.iter().position(|buffer| buffer.name == argument.name);
+        let of = call.arguments.iter().filter(|argument| such(argument)).filter_map(bit);
+        of.map(|bit| 1 << bit).sum::<u32>().to_string()
+    })
+}
+
+fn type_of(kind: &Type) -> String {
+    match kind {
+        Type::Bool => "bool".to_string(),
+        Type::Number(bits, _) => format!("uint{bits}_t"),
+        Type::Size => "size_t".to_string(),
+        Type::Struct(name) => format!("struct tacit_{name}"),
+        Type::Array(_) | Type::Octets | Type::Sessions => panic!("calls.txt: no type of its own"),
+    }
+}
+
+fn declared(kind: &Type, name: &str) -> String {
+    match kind {
+        Type::Array(count) => format!("uint8_t {name}[{count}]"),
+        _ => format!("{} {name}", type_of(kind)),
+    }
+}
+
+/// An expression that puts a value of this type at `to` and is where it ends.
+fn put(kind: &Type, to: &str, value: &str) -> String {
+    match kind {
+        Type::Bool => format!("put_number({to}, {value}, 1)"),
+        Type::Number(bits, _) => format!("put_number({to}, {value}, {})", bits / 8),
+        Type::Size => format!("put_number({to}, {value}, 8)"),
+        Type::Array(count) => format!("(uint8_t *)memcpy({to}, {value}, {count}) + {count}"),
+        Type::Struct(name) => format!("put_{name}({to}, &{value})"),
+        Type::Octets | Type::Sessions => panic!("calls.txt: lent in a struct"),
+    }
+}
+
+/// Statements that take a value of this type from the source.
+fn take(kind: &Type, value: &str) -> String {
+    match kind {
+        Type::Bool => format!("{value} = source->flag(source);"),
+        Type::Number(bits, _) => {
+            format!("{value} = ({})source->number(source, {});", type_of(kind), bits / 8)
+        }
+        Type::Size => format!("{value} = (size_t)source->number(source, 8);"),
+        Type::Array(count) => format!(
+            "for (size_t i = 0; i < {count}; i++)\n        {value}[i] = (uint8_t)source->number(source, 1);"
+        ),
+        Type::Struct(name) => format!("take_{name}(&{value}, source);"),
+        Type::Octets | Type::Sessions => panic!("calls.txt: lent in a struct"),
+    }
+}
+
+/// A struct as octets, field behind field, and back; and whether two are the same.
+fn octets_of(table: &Table, this: &Struct) -> String {
+    let name = &this.name;
+    let octets = table.octets(&Type::Struct(name.clone()));
+    let puts = each(&this.fields, |field| {
+        format!("    to = {};\n", put(&field.kind, "to", &format!("from->{}", field.name)))
+    });
+    let takes = each(&this.fields, |field| {
+        format!("    {}\n", take(&field.kind, &format!("to->{}", field.name)))
+    });
+    let members = each(&this.fields, |field| format!("{}; ", declared(&field.kind, &field.name)));
+    format!(
+        r#"
+enum {{ {upper}_OCTETS = {octets} }};
+_Static_assert(sizeof(struct tacit_{name}) == sizeof(struct {{ {members}}}), "{name} in calls.txt");
+
+static inline uint8_t *put_{name}(uint8_t *to, const struct tacit_{name} *from)
+{{
+{puts}    return to;
+}}
+
+static inline void take_{name}(struct tacit_{name} *to, struct source *source)
+{{
+{takes}}}
+"#,
+        upper = name.to_uppercase()
+    )
+}
+
+fn parameter(argument: &Field) -> String {
+    let name = &argument.name;
+    let constant = if argument.written { "" } else { "const " };
+    match argument.kind {
+        Type::Octets => format!("{constant}uint8_t *{name}, size_t {name}_len"),
+        Type::Sessions => format!("{constant}struct tacit_session *{name}, size_t {name}_len"),
+        _ => declared(&argument.kind, name),
+    }
+}
+
+fn parameters(call: &Call) -> String {
+    match call.arguments.is_empty() {
+        true => "void".to_string(),
+        false => joined(&call.arguments, ", ", parameter),
+    }
+}
+
+/// The names of a call's parameters.
+fn passed(call: &Call) -> Vec<String> {
+    let names = call.arguments.iter().flat_map(|argument| match argument.kind.is_lent() {
+        true => vec![argument.name.clone(), format!("{}_len", argument.name)],
+        false => vec![argument.name.clone()],
+    });
+    names.collect()
+}
+
+fn pointer(table: &Table, call: &Call) -> String {
+    let answer = type_of(&table.answer(call));
+    format!("    {answer} (*{})({});\n", call.name, parameters(call))
+}
+
+fn signature(table: &Table, call: &Call) -> String {
+    let (name, answer) = (&call.name, type_of(&table.answer(call)));
+    let (parameters, passed) = (parameters(call), passed(call).join(", "));
+    format!(
+        "#define SIGNATURE_{name}(word) {answer} word##_{name}({parameters})\n\
+         #define PASSED_{name} {passed}\n"
+    )
+}
+
+fn does_nothing(table: &Table, call: &Call) -> String {
+    let answer = type_of(&table.answer(call));
+    let unused = each(passed(call), |name| format!("(void){name}; "));
+    format!(" \\\n    static SIGNATURE_{}(word) {{ {unused}return ({answer}){{0}}; }}", call.name)
+}
+
+fn take_call(call: &Call) -> String {
+    let takes = each(&call.arguments, |argument| match argument.kind.is_lent() {
+        true => {
+            let buffer = argument.name.to_uppercase();
+            format!("        given->lent[{buffer}] = source->buffer(source, {buffer});\n")
+        }
+        false => format!("        {}\n", take(&argument.kind, &format!("given->{}", argument.name))),
+    });
+    format!("    case {}:\n{takes}        break;\n", call.name.to_uppercase())
+}
+
+fn show_call(table: &Table, call: &Call) -> String {
+    let shows = each(&call.arguments, |argument| {
+        let name = &argument.name;
+        if argument.kind.is_lent() {
+            let lent = format!("given->lent[{}]", name.to_uppercase());
+            return format!("        show(\"{name}\", {lent}.start, {lent}.length);\n");
+        }
+        let put = put(&argument.kind, "octets", &format!("given->{name}"));
+        let length = table.octets(&argument.kind);
+        format!("        {put};\n        show(\"{name}\", octets, {length});\n")
+    });
+    format!("    case {}:\n{shows}        break;\n", call.name.to_uppercase())
+}
+
+fn make_call(table: &Table, call: &Call) -> String {
+    let passed = joined(&call.arguments, ", ", |argument| {
+        let upper = argument.name.to_uppercase();
+        match argument.kind {
+            Type::Octets => format!("at[{upper}], given->lent[{upper}].length"),
+            Type::Sessions => format!("at[{upper}], given->lent[{upper}].length / SESSION_OCTETS"),
+            _ => format!("given->{}", argument.name),
+        }
+    });
+    let answer = table.answer(call);
+    let put = put(&answer, "said", "answer");
+    format!(
+        "    case {}: {{\n        {} = calls->{}({passed});\n        {put};\n        break;\n    }}\n",
+        call.name.to_uppercase(),
+        declared(&answer, "answer"),
+        call.name
+    )
+}

@@ -1,0 +1,250 @@
+//! The calls as `compare` has them, for its `call.rs`.
+
+use crate::table::{camel, each, joined, Call, Field, Struct, Table, Type};
+
+pub fn module(table: &Table) -> String {
+    let which = joined(&table.calls, ", ", |call| camel(&call.name));
+    let names = joined(&table.calls, ", ", |call| format!("\"{}\"", call.name));
+    let arguments = table.arguments();
+    let given = each(&arguments, |argument| declared(argument));
+    let nothing = each(&arguments, |argument| format!("            {}: Default::default(),\n", argument.name));
+    let written: Vec<Field> = table.buffers().into_iter().filter(|buffer| buffer.written).collect();
+    let left = each(&written, |buffer| declared(buffer));
+    let as_found = each(&written, |buffer| format!("            {0}: call.{0}.clone(),\n", buffer.name));
+    let gets = each(&table.calls, |call| get_left(call, &written));
+    let given_names = arms(table, |call| {
+        let name = |argument: &Field| format!("(\"{0}\", &self.{0} as &dyn Given)", argument.name);
+        format!("vec![{}]", joined(&call.arguments, ", ", name))
+    });
+    let simpler = arms(table, |call| match call.arguments.is_empty() {
+        true => "false".to_string(),
+        false => joined(&call.arguments, " || ", |argument| {
+            format!("way.of(&self.{0}, &mut |{0}| take(Call {{ {0}, ..self.clone() }}))", argument.name)
+        }),
+    });
+    let second = arms(table, second_says);
+    let answers = answers(table);
+    let said = each(&answers, |(name, kind)| format!("    {}({kind}),\n", camel(name)));
+    let said_gets = arms(table, |call| format!("Said::{}(Value::get(octets)?)", camel(&call.answer)));
+    let said_shows = each(&answers, |(name, _)| {
+        let before = if table.value(name).is_some() { format!("{name} ") } else { String::new() };
+        format!("            Said::{}(value) => format!(\"{before}{{}}\", value.show()),\n", camel(name))
+    });
+    let refusals = each(&answers, |(name, _)| match table.value(name) {
+        Some(_) if name == "refusal" => "            Said::Refusal(refusal) => *refusal,\n".to_string(),
+        None if table.fields(name).iter().any(|field| field.name == "refusal") => {
+            format!("            Said::{}(value) => value.refusal,\n", camel(name))
+        }
+        _ => String::new(),
+    });
+    let structs = each(&table.structs, value);
+    let session = table.octets(&Type::Struct("session".to_string()));
+    let longest = table.longest_answer();
+    format!(
+        r#"/// Octets of the fields of a session, and of the longest answer.
+pub const SESSION_OCTETS: usize = {session};
+pub const SAID_OCTETS: usize = {longest};
+
+#[derive(Clone, Copy, Debug, PartialEq, Eq, PartialOrd, Ord)]
+pub enum Which {{ {which} }}
+
+impl Which {{
+    pub fn name(self) -> &'static str {{
+        [{names}][self as usize]
+    }}
+}}
+
+/// A call with all that it is given; what it does not take is empty or 0.
+#[derive(Clone, Debug, PartialEq, Eq)]
+pub struct Call {{
+    pub which: Which,
+{given}}}
+
+impl Call {{
+    /// This call, given nothing yet.
+    pub fn new(which: Which) -> Call {{
+        Call {{
+            which,
+{nothing}        }}
+    }}
+
+    /// What the call is given, by its names.
+    pub fn given(&self) -> Vec<(&'static str, &dyn Given)> {{
+        match self.which {{
+{given_names}        }}
+    }}
+
+    /// Hands over the call with one thing simpler until one is taken; tells
+    /// whether one was.
+    pub fn simpler(&self, way: Way, take: &mut dyn FnMut(Call) -> bool) -> bool {{
+        match self.which {{
+{simpler}        }}
+    }}
+
+    fn second_says(&self, left: &mut Left) -> Said {{
+        match self.which {{
+{second}        }}
+    }}
+}}
+
+/// What there is, after a call, of the buffers that calls may write.
+#[derive(Clone, Debug, PartialEq, Eq)]
+pub struct Left {{
+{left}}}
+
+impl Left {{
+    pub fn as_found(call: &Call) -> Left {{
+        Left {{
+{as_found}        }}
+    }}
+
+    pub fn get(call: &Call, octets: &mut &[u8]) -> Option<Left> {{
+        let mut left = Left::as_found(call);
+        match call.which {{
+{gets}        }}
+        Some(left)
+    }}
+}}
+
+/// What came back as a value.
+#[derive(Clone, Debug, PartialEq, Eq)]
+pub enum Said {{
+{said}    /// Nothing: the second implementation broke off.
+    Panicked,
+    /// Nothing: the library broke off or did not return.
+    Lost(Lost),
+}}
+
+impl Said {{
+    pub fn get(which: Which, octets: &mut &[u8]) -> Option<Said> {{
+        Some(match which {{
+{said_gets}        }})
+    }}
+
+    /// The refusal, or 0 where there can be none.
+    pub fn refusal(&self) -> u8 {{
+        match self {{
+{refusals}            _ => 0,
+        }}
+    }}
+
+    pub fn show(&self) -> String {{
+        match self {{
+{said_shows}            Said::Panicked => "broke off".to_string(),
+            Said::Lost(Lost(why)) => why.clone(),
+        }}
+    }}
+}}
+{structs}"#
+    )
+}
+
+/// An arm for each call.
+fn arms(table: &Table, text: impl Fn(&Call) -> String) -> String {
+    each(&table.calls, |call| format!("            Which::{} => {},\n", camel(&call.name), text(call)))
+}
+
+fn type_of(kind: &Type) -> String {
+    match kind {
+        Type::Bool => "bool".to_string(),
+        Type::Number(bits, _) => format!("u{bits}"),
+        Type::Size => "u64".to_string(),
+        Type::Array(count) => format!("[u8; {count}]"),
+        Type::Struct(name) => camel(name),
+        Type::Octets => "Vec<u8>".to_string(),
+        Type::Sessions => "Vec<Session>".to_string(),
+    }
+}
+
+fn declared(field: &Field) -> String {
+    format!("    pub {}: {},\n", field.name, type_of(&field.kind))
+}
+
+/// Everything that calls answer, once, with its type.
+fn answers(table: &Table) -> Vec<(String, String)> {
+    let mut all: Vec<(String, String)> = Vec::new();
+    for call in &table.calls {
+        if all.iter().all(|(name, _)| *name != call.answer) {
+            all.push((call.answer.clone(), type_of(&table.answer(call))));
+        }
+    }
+    all
+}
+
+fn get_left(call: &Call, written: &[Field]) -> String {
+    let such = |buffer: &&Field| {
+        let argument = call.arguments.iter().find(|argument| argument.name == buffer.name);
+        argument.is_some_and(|argument| argument.written)
+    };
+    let gets = each(written.iter().filter(such), |buffer| {
+        format!("left.{} = Value::get(octets)?; ", buffer.name)
+    });
+    format!("            Which::{} => {{ {gets}}}\n", camel(&call.name))
+}
+
+fn second_says(call: &Call) -> String {
+    let passed = joined(&call.arguments, ", ", |argument| {
+        let name = &argument.name;
+        match (&argument.kind, argument.written) {
+            (Type::Octets | Type::Sessions, true) => format!("&mut left.{name}"),
+            (Type::Octets | Type::Sessions, false) => format!("&self.{name}"),
+            (Type::Size, _) => format!("size(self.{name})"),
+            _ => format!("self.{name}"),
+        }
+    });
+    format!("Said::{}(second::{}({passed}))", camel(&call.answer), call.name)
+}
+
+/// A struct as a value: all of it is said of its fields.
+fn value(this: &Struct) -> String {
+    let fields = &this.fields;
+    let puts = each(fields, |field| format!("        self.{}.put(octets);\n", field.name));
+    let bits = joined(fields, " + ", |field| format!("self.{}.bits()", field.name));
+    let shows = joined(fields, ", ", |field| show(field, fields.len()));
+    let shown = joined(fields, ", ", |field| match field.kind {
+        Type::Number(_, true) => format!("self.{}", field.name),
+        _ => format!("self.{}.show()", field.name),
+    });
+    let gets = joined(fields, ", ", |field| format!("{}: Value::get(octets)?", field.name));
+    let plainer = joined(fields, "\n            || ", |field| {
+        format!("self.{0}.plainer(&mut |{0}| take({1} {{ {0}, ..*self }}))", field.name, camel(&this.name))
+    });
+    format!(
+        r#"
+impl Given for {name} {{
+    fn put(&self, octets: &mut Vec<u8>) {{
+{puts}    }}
+
+    fn bits(&self) -> u32 {{
+        {bits}
+    }}
+
+    fn show(&self) -> String {{
+        format!("{shows}", {shown})
+    }}
+}}
+
+impl Value for {name} {{
+    fn get(octets: &mut &[u8]) -> Option<{name}> {{
+        Some({name} {{ {gets} }})
+    }}
+
+    #[allow(clippy::needless_update)]
+    fn plainer(&self, take: &mut dyn FnMut({name}) -> bool) -> bool {{
+        {plainer}
+    }}
+}}
+"#,
+        name = camel(&this.name)
+    )
+}
+
+/// How a field is shown; the only one of its struct without its name.
+fn show(field: &Field, fields: usize) -> String {
+    match field.kind {
+        _ if fields == 1 => "{}".to_string(),
+        Type::Number(bits, true) => format!("{} {{:0{}X}}", field.name, bits / 4),
+        Type::Struct(_) => format!("{} ({{}})", field.name),
+        _ => format!("{} {{}}", field.name),
+    }
+}

@@ -1,0 +1,2 @@
+use crate::table::Table;
+pub fn functions(_: &Table) -> String { String::new() }
