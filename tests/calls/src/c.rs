@@ -9,15 +9,19 @@ pub fn header(table: &Table) -> String {
     let longest = table.longest_answer();
     let taken = masks(table, |_| true);
     let written = masks(table, |argument| argument.written);
-    let given = each(table.arguments(), |argument| match argument.kind.is_lent() {
-        true => String::new(),
-        false => format!("    {};\n", declared(&argument.kind, &argument.name)),
+    let given = each(table.arguments(), |argument| {
+        match argument.kind.is_lent() {
+            true => String::new(),
+            false => format!("    {};\n", declared(&argument.kind, &argument.name)),
+        }
     });
     let structs = each(&table.structs, |each| octets_of(table, each));
     let pointers = each(&table.calls, |call| pointer(table, call));
     let members = joined(&table.calls, ", ", |call| format!("word##_{}", call.name));
     let signatures = each(&table.calls, |call| signature(table, call));
-    let declarations = each(&table.calls, |call| format!(" \\\n    SIGNATURE_{}(word);", call.name));
+    let declarations = each(&table.calls, |call| {
+        format!(" \\\n    SIGNATURE_{}(word);", call.name)
+    });
     let nothing = each(&table.calls, |call| does_nothing(table, call));
     let takes = each(&table.calls, take_call);
     let shows = each(&table.calls, |call| show_call(table, call));
@@ -105,8 +109,16 @@ static inline void make_call(const struct calls *calls, const struct given *give
 fn masks(table: &Table, such: impl Fn(&Field) -> bool) -> String {
     let buffers = table.buffers();
     joined(&table.calls, ", ", |call| {
-        let bit = |argument: &Field| buffers.iter().position(|buffer| buffer.name == argument.name);
-        let of = call.arguments.iter().filter(|argument| such(argument)).filter_map(bit);
+        let bit = |argument: &Field| {
+            buffers
+                .iter()
+                .position(|buffer| buffer.name == argument.name)
+        };
+        let of = call
+            .arguments
+            .iter()
+            .filter(|argument| such(argument))
+            .filter_map(bit);
         of.map(|bit| 1 << bit).sum::<u32>().to_string()
     })
 }
@@ -161,12 +173,20 @@ fn octets_of(table: &Table, this: &Struct) -> String {
     let name = &this.name;
     let octets = table.octets(&Type::Struct(name.clone()));
     let puts = each(&this.fields, |field| {
-        format!("    to = {};\n", put(&field.kind, "to", &format!("from->{}", field.name)))
+        format!(
+            "    to = {};\n",
+            put(&field.kind, "to", &format!("from->{}", field.name))
+        )
     });
     let takes = each(&this.fields, |field| {
-        format!("    {}\n", take(&field.kind, &format!("to->{}", field.name)))
+        format!(
+            "    {}\n",
+            take(&field.kind, &format!("to->{}", field.name))
+        )
     });
-    let members = each(&this.fields, |field| format!("{}; ", declared(&field.kind, &field.name)));
+    let members = each(&this.fields, |field| {
+        format!("{}; ", declared(&field.kind, &field.name))
+    });
     format!(
         r#"
 enum {{ {upper}_OCTETS = {octets} }};
@@ -204,10 +224,13 @@ fn parameters(call: &Call) -> String {
 
 /// The names of a call's parameters.
 fn passed(call: &Call) -> Vec<String> {
-    let names = call.arguments.iter().flat_map(|argument| match argument.kind.is_lent() {
-        true => vec![argument.name.clone(), format!("{}_len", argument.name)],
-        false => vec![argument.name.clone()],
-    });
+    let names = call
+        .arguments
+        .iter()
+        .flat_map(|argument| match argument.kind.is_lent() {
+            true => vec![argument.name.clone(), format!("{}_len", argument.name)],
+            false => vec![argument.name.clone()],
+        });
     names.collect()
 }
 
@@ -228,7 +251,10 @@ fn signature(table: &Table, call: &Call) -> String {
 fn does_nothing(table: &Table, call: &Call) -> String {
     let answer = type_of(&table.answer(call));
     let unused = each(passed(call), |name| format!("(void){name}; "));
-    format!(" \\\n    static SIGNATURE_{}(word) {{ {unused}return ({answer}){{0}}; }}", call.name)
+    format!(
+        " \\\n    static SIGNATURE_{}(word) {{ {unused}return ({answer}){{0}}; }}",
+        call.name
+    )
 }
 
 fn take_call(call: &Call) -> String {
@@ -237,9 +263,15 @@ fn take_call(call: &Call) -> String {
             let buffer = argument.name.to_uppercase();
             format!("        given->lent[{buffer}] = source->buffer(source, {buffer});\n")
         }
-        false => format!("        {}\n", take(&argument.kind, &format!("given->{}", argument.name))),
+        false => format!(
+            "        {}\n",
+            take(&argument.kind, &format!("given->{}", argument.name))
+        ),
     });
-    format!("    case {}:\n{takes}        break;\n", call.name.to_uppercase())
+    format!(
+        "    case {}:\n{takes}        break;\n",
+        call.name.to_uppercase()
+    )
 }
 
 fn show_call(table: &Table, call: &Call) -> String {
@@ -253,7 +285,10 @@ fn show_call(table: &Table, call: &Call) -> String {
         let length = table.octets(&argument.kind);
         format!("        {put};\n        show(\"{name}\", octets, {length});\n")
     });
-    format!("    case {}:\n{shows}        break;\n", call.name.to_uppercase())
+    format!(
+        "    case {}:\n{shows}        break;\n",
+        call.name.to_uppercase()
+    )
 }
 
 fn make_call(table: &Table, call: &Call) -> String {

@@ -6,11 +6,19 @@ pub fn module(table: &Table) -> String {
     let which = joined(&table.calls, ", ", |call| camel(&call.name));
     let names = joined(&table.calls, ", ", |call| format!("\"{}\"", call.name));
     let arguments = table.arguments();
-    let given = each(&arguments, |argument| declared(argument));
-    let nothing = each(&arguments, |argument| format!("            {}: Default::default(),\n", argument.name));
-    let written: Vec<Field> = table.buffers().into_iter().filter(|buffer| buffer.written).collect();
-    let left = each(&written, |buffer| declared(buffer));
-    let as_found = each(&written, |buffer| format!("            {0}: call.{0}.clone(),\n", buffer.name));
+    let given = each(&arguments, declared);
+    let nothing = each(&arguments, |argument| {
+        format!("            {}: Default::default(),\n", argument.name)
+    });
+    let written: Vec<Field> = table
+        .buffers()
+        .into_iter()
+        .filter(|buffer| buffer.written)
+        .collect();
+    let left = each(&written, declared);
+    let as_found = each(&written, |buffer| {
+        format!("            {0}: call.{0}.clone(),\n", buffer.name)
+    });
     let gets = each(&table.calls, |call| get_left(call, &written));
     let given_names = arms(table, |call| {
         let name = |argument: &Field| format!("(\"{0}\", &self.{0} as &dyn Given)", argument.name);
@@ -19,21 +27,40 @@ pub fn module(table: &Table) -> String {
     let simpler = arms(table, |call| match call.arguments.is_empty() {
         true => "false".to_string(),
         false => joined(&call.arguments, " || ", |argument| {
-            format!("way.of(&self.{0}, &mut |{0}| take(Call {{ {0}, ..self.clone() }}))", argument.name)
+            format!(
+                "way.of(&self.{0}, &mut |{0}| take(Call {{ {0}, ..self.clone() }}))",
+                argument.name
+            )
         }),
     });
     let second = arms(table, second_says);
     let answers = answers(table);
-    let said = each(&answers, |(name, kind)| format!("    {}({kind}),\n", camel(name)));
-    let said_gets = arms(table, |call| format!("Said::{}(Value::get(octets)?)", camel(&call.answer)));
+    let said = each(&answers, |(name, kind)| {
+        format!("    {}({kind}),\n", camel(name))
+    });
+    let said_gets = arms(table, |call| {
+        format!("Said::{}(Value::get(octets)?)", camel(&call.answer))
+    });
     let said_shows = each(&answers, |(name, _)| {
-        let before = if table.value(name).is_some() { format!("{name} ") } else { String::new() };
-        format!("            Said::{}(value) => format!(\"{before}{{}}\", value.show()),\n", camel(name))
+        let shown = match table.value(name) {
+            Some(_) => format!("format!(\"{name} {{}}\", value.show())"),
+            None => "value.show()".to_string(),
+        };
+        format!("            Said::{}(value) => {shown},\n", camel(name))
     });
     let refusals = each(&answers, |(name, _)| match table.value(name) {
-        Some(_) if name == "refusal" => "            Said::Refusal(refusal) => *refusal,\n".to_string(),
-        None if table.fields(name).iter().any(|field| field.name == "refusal") => {
-            format!("            Said::{}(value) => value.refusal,\n", camel(name))
+        Some(_) if name == "refusal" => {
+            "            Said::Refusal(refusal) => *refusal,\n".to_string()
+        }
+        None if table
+            .fields(name)
+            .iter()
+            .any(|field| field.name == "refusal") =>
+        {
+            format!(
+                "            Said::{}(value) => value.refusal,\n",
+                camel(name)
+            )
         }
         _ => String::new(),
     });
@@ -141,7 +168,13 @@ impl Said {{
 
 /// An arm for each call.
 fn arms(table: &Table, text: impl Fn(&Call) -> String) -> String {
-    each(&table.calls, |call| format!("            Which::{} => {},\n", camel(&call.name), text(call)))
+    each(&table.calls, |call| {
+        format!(
+            "            Which::{} => {},\n",
+            camel(&call.name),
+            text(call)
+        )
+    })
 }
 
 fn type_of(kind: &Type) -> String {
@@ -173,7 +206,10 @@ fn answers(table: &Table) -> Vec<(String, String)> {
 
 fn get_left(call: &Call, written: &[Field]) -> String {
     let such = |buffer: &&Field| {
-        let argument = call.arguments.iter().find(|argument| argument.name == buffer.name);
+        let argument = call
+            .arguments
+            .iter()
+            .find(|argument| argument.name == buffer.name);
         argument.is_some_and(|argument| argument.written)
     };
     let gets = each(written.iter().filter(such), |buffer| {
@@ -192,22 +228,30 @@ fn second_says(call: &Call) -> String {
             _ => format!("self.{name}"),
         }
     });
-    format!("Said::{}(second::{}({passed}))", camel(&call.answer), call.name)
+    format!(
+        "Said::{}(second::{}({passed}))",
+        camel(&call.answer),
+        call.name
+    )
 }
 
 /// A struct as a value: all of it is said of its fields.
 fn value(this: &Struct) -> String {
     let fields = &this.fields;
-    let puts = each(fields, |field| format!("        self.{}.put(octets);\n", field.name));
-    let bits = joined(fields, " + ", |field| format!("self.{}.bits()", field.name));
-    let shows = joined(fields, ", ", |field| show(field, fields.len()));
-    let shown = joined(fields, ", ", |field| match field.kind {
-        Type::Number(_, true) => format!("self.{}", field.name),
-        _ => format!("self.{}.show()", field.name),
+    let puts = each(fields, |field| {
+        format!("        self.{}.put(octets);\n", field.name)
     });
-    let gets = joined(fields, ", ", |field| format!("{}: Value::get(octets)?", field.name));
+    let bits = joined(fields, " + ", |field| format!("self.{}.bits()", field.name));
+    let show = show(fields);
+    let gets = joined(fields, ", ", |field| {
+        format!("{}: Value::get(octets)?", field.name)
+    });
     let plainer = joined(fields, "\n            || ", |field| {
-        format!("self.{0}.plainer(&mut |{0}| take({1} {{ {0}, ..*self }}))", field.name, camel(&this.name))
+        format!(
+            "self.{0}.plainer(&mut |{0}| take({1} {{ {0}, ..*self }}))",
+            field.name,
+            camel(&this.name)
+        )
     });
     format!(
         r#"
@@ -220,7 +264,7 @@ impl Given for {name} {{
     }}
 
     fn show(&self) -> String {{
-        format!("{shows}", {shown})
+        {show}
     }}
 }}
 
@@ -239,12 +283,20 @@ impl Value for {name} {{
     )
 }
 
-/// How a field is shown; the only one of its struct without its name.
-fn show(field: &Field, fields: usize) -> String {
-    match field.kind {
-        _ if fields == 1 => "{}".to_string(),
+/// An expression that shows a struct: its fields with their names, but a single
+/// one without.
+fn show(fields: &[Field]) -> String {
+    if let [only] = fields {
+        return format!("self.{}.show()", only.name);
+    }
+    let text = joined(fields, ", ", |field| match field.kind {
         Type::Number(bits, true) => format!("{} {{:0{}X}}", field.name, bits / 4),
         Type::Struct(_) => format!("{} ({{}})", field.name),
         _ => format!("{} {{}}", field.name),
-    }
+    });
+    let shown = joined(fields, ", ", |field| match field.kind {
+        Type::Number(_, true) => format!("self.{}", field.name),
+        _ => format!("self.{}.show()", field.name),
+    });
+    format!("format!(\"{text}\", {shown})")
 }

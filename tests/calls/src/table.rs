@@ -26,7 +26,10 @@ impl Type {
                 let bits = word[1..].parse().expect("digits");
                 Type::Number(bits, word.starts_with('x'))
             }
-            _ => match word.strip_prefix("u8[").and_then(|rest| rest.strip_suffix(']')) {
+            _ => match word
+                .strip_prefix("u8[")
+                .and_then(|rest| rest.strip_suffix(']'))
+            {
                 Some(count) => Type::Array(count.parse().expect("a number of octets")),
                 None => Type::Struct(word.to_string()),
             },
@@ -73,8 +76,15 @@ pub struct Table {
 
 impl Table {
     pub fn read(text: &str) -> Table {
-        let mut table = Table { structs: Vec::new(), values: Vec::new(), calls: Vec::new() };
-        for line in text.lines().filter(|line| !line.is_empty() && !line.starts_with('#')) {
+        let mut table = Table {
+            structs: Vec::new(),
+            values: Vec::new(),
+            calls: Vec::new(),
+        };
+        for line in text
+            .lines()
+            .filter(|line| !line.is_empty() && !line.starts_with('#'))
+        {
             let words: Vec<&str> = line.split_whitespace().collect();
             match words[..] {
                 ["struct", name, ..] => table.structs.push(Struct {
@@ -124,7 +134,9 @@ impl Table {
 
     pub fn fields(&self, name: &str) -> &[Field] {
         let found = self.structs.iter().find(|found| found.name == name);
-        &found.unwrap_or_else(|| panic!("calls.txt: no struct {name}")).fields
+        &found
+            .unwrap_or_else(|| panic!("calls.txt: no struct {name}"))
+            .fields
     }
 
     /// Octets of a type, field behind field.
@@ -134,7 +146,11 @@ impl Table {
             Type::Number(bits, _) => bits / 8,
             Type::Size => 8,
             Type::Array(count) => *count,
-            Type::Struct(name) => self.fields(name).iter().map(|field| self.octets(&field.kind)).sum(),
+            Type::Struct(name) => self
+                .fields(name)
+                .iter()
+                .map(|field| self.octets(&field.kind))
+                .sum(),
             Type::Octets | Type::Sessions => panic!("calls.txt: lent in a struct"),
         }
     }
@@ -149,7 +165,10 @@ impl Table {
 
     /// Octets of the longest answer.
     pub fn longest_answer(&self) -> usize {
-        let all = self.calls.iter().map(|call| self.octets(&self.answer(call)));
+        let all = self
+            .calls
+            .iter()
+            .map(|call| self.octets(&self.answer(call)));
         all.max().unwrap_or(0)
     }
 }
@@ -165,14 +184,20 @@ fn fields(words: &[&str]) -> Vec<Field> {
             [name, kind, "mut"] => (name, kind, true),
             _ => panic!("calls.txt: cannot be read: {field}"),
         };
-        Field { name: name.to_string(), kind: Type::read(kind), written }
+        Field {
+            name: name.to_string(),
+            kind: Type::read(kind),
+            written,
+        }
     })
     .collect()
 }
 
 /// `row_event` as `RowEvent`.
 pub fn camel(name: &str) -> String {
-    let words = name.split('_').map(|word| word[..1].to_uppercase() + &word[1..]);
+    let words = name
+        .split('_')
+        .map(|word| word[..1].to_uppercase() + &word[1..]);
     words.collect()
 }
 
@@ -182,6 +207,14 @@ pub fn each<T>(items: impl IntoIterator<Item = T>, text: impl Fn(T) -> String) -
 }
 
 /// One text for each, with something between them.
-pub fn joined<T>(items: impl IntoIterator<Item = T>, between: &str, text: impl Fn(T) -> String) -> String {
-    items.into_iter().map(text).collect::<Vec<_>>().join(between)
+pub fn joined<T>(
+    items: impl IntoIterator<Item = T>,
+    between: &str,
+    text: impl Fn(T) -> String,
+) -> String {
+    items
+        .into_iter()
+        .map(text)
+        .collect::<Vec<_>>()
+        .join(between)
 }

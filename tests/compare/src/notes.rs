@@ -101,10 +101,7 @@ fn of_limits(call: &Call, answer: &Answer, is: &Fields) -> Vec<&'static str> {
     let outcome = answer.outcome;
     such(&[
         ("at limit, all limits 0", outcome == 3 && all_0),
-        (
-            "at limit, none 0",
-            outcome == 3 && !limits.contains(&0),
-        ),
+        ("at limit, none 0", outcome == 3 && !limits.contains(&0)),
         (
             "at limit, 63 others open",
             outcome == 3 && counts.contains(&63),

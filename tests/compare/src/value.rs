@@ -141,7 +141,9 @@ impl<const COUNT: usize> Value for [u8; COUNT] {
     }
 
     fn plainer(&self, take: &mut dyn FnMut([u8; COUNT]) -> bool) -> bool {
-        fewer_bits(self, &mut |fewer| take(std::array::from_fn(|place| fewer[place])))
+        fewer_bits(self, &mut |fewer| {
+            take(std::array::from_fn(|place| fewer[place]))
+        })
     }
 }
 
