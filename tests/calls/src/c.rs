@@ -6,6 +6,9 @@ pub fn header(table: &Table) -> String {
     let buffers = joined(table.buffers(), ", ", |buffer| buffer.name.to_uppercase());
     let numbers = joined(&table.calls, ", ", |call| call.name.to_uppercase());
     let names = joined(&table.calls, ", ", |call| format!("\"{}\"", call.name));
+    let buffer_names = joined(table.buffers(), ", ", |buffer| {
+        format!("\"{}\"", buffer.name)
+    });
     let longest = table.longest_answer();
     let taken = masks(table, |_| true);
     let written = masks(table, |argument| argument.written);
@@ -39,6 +42,7 @@ enum buffer {{ {buffers}, BUFFERS }};
 enum {{ SAID = {longest} }}; /* octets of the longest answer, field behind field */
 
 static const char *const call_names[CALLS] = {{{names}}};
+static const char *const buffer_names[BUFFERS] = {{{buffer_names}}};
 
 /* The buffers that each call is lent, and those that it may write, a bit for each. */
 static const unsigned lent_to[CALLS] = {{{taken}}};

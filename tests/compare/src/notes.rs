@@ -1,6 +1,6 @@
 //! What is worth noting of a call beside its refusal and its outcome.
 
-use crate::call::{Call, Said, Seen};
+use crate::call::{Call, Said, Seen, Which};
 use crate::tally::Place::{self, Outside, Ready, Unsound};
 use crate::{records, rows};
 use second::{Answer, Fields};
@@ -34,6 +34,40 @@ fn such(notes: &[(&'static str, bool)]) -> Vec<&'static str> {
     let so = notes.iter().filter(|(_, so)| *so);
     so.map(|(note, _)| *note).collect()
 }
+
+/// Octets from which on a list is long.
+const LONG: u16 = 2_000;
+
+/// Long lists that an event has read.
+pub fn of_lists(call: &Call, seen: &Seen) -> Vec<&'static str> {
+    let [tac, sac] = match (call.which, call.row_event()) {
+        (Which::Initialization, _) => [OF_LISTS[0], OF_LISTS[1]],
+        (Which::Capability, _) => [OF_LISTS[2], OF_LISTS[3]],
+        (_, Some(0)) => [OF_LISTS[4], OF_LISTS[5]],
+        (_, Some(1)) => [OF_LISTS[6], OF_LISTS[7]],
+        _ => return Vec::new(),
+    };
+    if call.area.len() < LONG.into() || seen.said.refusal() != 0 {
+        return Vec::new();
+    }
+    let reading = second::read(&call.area);
+    such(&[
+        (tac, reading.tac.length >= LONG),
+        (sac, reading.sac.length >= LONG),
+    ])
+}
+
+/// All that lists can have to be noted.
+pub const OF_LISTS: [&str; 8] = [
+    "TAC, at Initialization",
+    "SAC, at Initialization",
+    "TAC, at Capability",
+    "SAC, at Capability",
+    "TAC, at Initialization in a row",
+    "SAC, at Initialization in a row",
+    "TAC, at Capability in a row",
+    "SAC, at Capability in a row",
+];
 
 /// What stands out of a row and of the limits that it is handed with.
 pub fn of_row(call: &Call, before: Place, seen: &Seen) -> Vec<&'static str> {

@@ -58,6 +58,9 @@ pub fn reachable() -> BTreeSet<Item> {
     add("sound", Unsound, Note("not sound"));
     kinds_and_retry(&mut add, "permitted_kinds", "retry_interval");
     rows_and_limits(&mut add);
+    for note in notes::OF_LISTS {
+        add("long list", Place::None, Note(note));
+    }
     items
 }
 

@@ -137,12 +137,12 @@ impl Tally {
         let name = name(call);
         let before = Place::before(call);
         for note in notes::of_row(call, before, seen) {
-            *self
-                .met
-                .entry(("row", Place::None, What::Note(note)))
-                .or_insert(0) += 1;
+            self.met(("row", Place::None, What::Note(note)));
         }
-        let mut met = |what| *self.met.entry((name, before, what)).or_insert(0) += 1;
+        for note in notes::of_lists(call, seen) {
+            self.met(("long list", Place::None, What::Note(note)));
+        }
+        let mut met = |what| self.met((name, before, what));
         match &seen.said {
             Said::Reading(reading) => {
                 met(What::Refusal(reading.refusal));
@@ -191,6 +191,10 @@ impl Tally {
             Said::Panicked | Said::Lost(_) => met(What::Note("broke off")),
             said => met(What::Refusal(said.refusal())),
         }
+    }
+
+    fn met(&mut self, item: Item) {
+        *self.met.entry(item).or_insert(0) += 1;
     }
 
     /// Prints the counts, and answers how many items are missing or should
