@@ -191,14 +191,23 @@ fn by_name(call: Call, named: Which, on: bool) -> Call {
         at: call.at,
         ..Call::on_row(named, call.row)
     };
-    match named {
-        Which::RowInitialization => (other.limits, other.area) = (call.limits, call.area),
-        Which::RowCapability => other.area = call.area,
-        Which::RowLocalChange => {
-            (other.ta_id, other.on, other.room) = (call.event.ta_id, on, call.room);
-        }
-        Which::RowHello => other.number = call.event.number,
-        _ => {}
+    if other.takes("limits") {
+        other.limits = call.limits;
+    }
+    if other.takes("area") {
+        other.area = call.area;
+    }
+    if other.takes("ta_id") {
+        other.ta_id = call.event.ta_id;
+    }
+    if other.takes("on") {
+        other.on = on;
+    }
+    if other.takes("number") {
+        other.number = call.event.number;
+    }
+    if other.takes("room") {
+        other.room = call.room;
     }
     other
 }

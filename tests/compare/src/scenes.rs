@@ -113,59 +113,63 @@ fn beyond(numbers: &mut Numbers, set: u32, width: usize) -> u32 {
     }
 }
 
-/// The calls on a record, in the order of the weights below.
-const ON_RECORD: [Which; 10] = [
-    Which::Initialization,
-    Which::Capability,
-    Which::LocalChange,
-    Which::Mismatch,
-    Which::Hello,
-    Which::Closed,
-    Which::Permitted,
-    Which::PermittedKinds,
-    Which::RetryInterval,
-    Which::Sound,
+/// The calls on a record, with how often each comes: alone, and as a step of a
+/// session in Ready, Open, Held and Gone.
+const ON_RECORD: [(Which, [usize; 5]); 10] = [
+    (Which::Initialization, [18, 50, 3, 4, 4]),
+    (Which::Capability, [20, 3, 40, 4, 4]),
+    (Which::LocalChange, [20, 15, 30, 25, 30]),
+    (Which::Mismatch, [7, 4, 2, 4, 4]),
+    (Which::Hello, [12, 10, 8, 40, 35]),
+    (Which::Closed, [5, 2, 3, 3, 3]),
+    (Which::Permitted, [6, 4, 4, 4, 4]),
+    (Which::PermittedKinds, [4, 4, 4, 4, 4]),
+    (Which::RetryInterval, [3, 4, 3, 8, 8]),
+    (Which::Sound, [5, 4, 3, 4, 4]),
 ];
 
 /// A call on a record of any sort.
 fn single(numbers: &mut Numbers) -> Call {
     let record = records::any(numbers);
-    let which = numbers.weighted(&[18, 20, 20, 7, 12, 5, 6, 4, 3, 5]);
-    on_record(numbers, ON_RECORD[which], record, areas::any)
+    on_record(numbers, 0, record, areas::any)
 }
 
 /// The next step of a walk, mostly one that its state is for.
 fn step(numbers: &mut Numbers, record: Vec<u8>) -> Call {
-    let weights = match records::fields(&record).state {
-        records::READY => [50, 3, 15, 4, 10, 2, 4, 4, 4, 4],
-        records::OPEN => [3, 40, 30, 2, 8, 3, 4, 4, 3, 3],
-        records::HELD => [4, 4, 25, 4, 40, 3, 4, 4, 8, 4],
-        _ => [4, 4, 30, 4, 35, 3, 4, 4, 8, 4],
-    };
-    let which = numbers.weighted(&weights);
-    on_record(numbers, ON_RECORD[which], record, mostly_good)
+    let state = records::fields(&record).state;
+    let column = 1 + usize::from(state.min(records::GONE));
+    on_record(numbers, column, record, mostly_good)
 }
 
-/// This call on a record, with what else it takes.
+/// A call on a record by this column of the weights, with what else it takes.
 fn on_record(
     numbers: &mut Numbers,
-    which: Which,
+    column: usize,
     record: Vec<u8>,
     area: fn(&mut Numbers, hint: u16) -> Vec<u8>,
 ) -> Call {
+    let weights = ON_RECORD.map(|(_, weights)| weights[column]);
+    let (which, _) = ON_RECORD[numbers.weighted(&weights)];
     let session = records::fields(&record);
     let hint = records::hint(&session);
     let mut call = Call::on_record(which, record);
-    match which {
-        Which::Initialization | Which::Capability => call.area = area(numbers, hint),
-        Which::LocalChange => {
-            call.ta_id = ta_id_to_change(numbers, hint);
-            call.room = room(numbers);
-            call.on = on_or_off(numbers, &session, call.ta_id);
-        }
-        Which::Hello => call.number = hello_number(numbers, session.hello),
-        Which::Permitted => call.kind = kind(numbers),
-        _ => {}
+    if call.takes("area") {
+        call.area = area(numbers, hint);
+    }
+    if call.takes("ta_id") {
+        call.ta_id = ta_id_to_change(numbers, hint);
+    }
+    if call.takes("room") {
+        call.room = room(numbers);
+    }
+    if call.takes("on") {
+        call.on = on_or_off(numbers, &session, call.ta_id);
+    }
+    if call.takes("number") {
+        call.number = hello_number(numbers, session.hello);
+    }
+    if call.takes("kind") {
+        call.kind = kind(numbers);
     }
     call
 }
