@@ -1,6 +1,6 @@
 //! The calls as `compare` has them, for its `call.rs`.
 
-use crate::table::{camel, each, joined, Call, Field, Struct, Table, Type};
+use crate::table::{camel, each, joined, seconds, Call, Field, Struct, Table, Type};
 
 pub fn module(table: &Table) -> String {
     let which = joined(&table.calls, ", ", |call| camel(&call.name));
@@ -183,9 +183,9 @@ fn type_of(kind: &Type) -> String {
         Type::Number(bits, _) => format!("u{bits}"),
         Type::Size => "u64".to_string(),
         Type::Array(count) => format!("[u8; {count}]"),
-        Type::Struct(name) => camel(name),
+        Type::Struct(name) => seconds(name),
         Type::Octets => "Vec<u8>".to_string(),
-        Type::Sessions => "Vec<Session>".to_string(),
+        Type::Sessions => format!("Vec<{}>", seconds("session")),
     }
 }
 
@@ -237,7 +237,7 @@ fn second_says(call: &Call) -> String {
 
 /// A struct as a value: all of it is said of its fields.
 fn value(this: &Struct) -> String {
-    let fields = &this.fields;
+    let (name, fields) = (seconds(&this.name), &this.fields);
     let puts = each(fields, |field| {
         format!("        self.{}.put(octets);\n", field.name)
     });
@@ -248,9 +248,8 @@ fn value(this: &Struct) -> String {
     });
     let plainer = joined(fields, "\n            || ", |field| {
         format!(
-            "self.{0}.plainer(&mut |{0}| take({1} {{ {0}, ..*self }}))",
-            field.name,
-            camel(&this.name)
+            "self.{0}.plainer(&mut |{0}| take({name} {{ {0}, ..*self }}))",
+            field.name
         )
     });
     format!(
@@ -278,8 +277,7 @@ impl Value for {name} {{
         {plainer}
     }}
 }}
-"#,
-        name = camel(&this.name)
+"#
     )
 }
 

@@ -1,6 +1,6 @@
 //! The second program's C names, for `tests/second_c`.
 
-use crate::table::{camel, each, joined, Call, Field, Table, Type};
+use crate::table::{each, joined, seconds, Call, Field, Table, Type};
 
 pub fn functions(table: &Table) -> String {
     each(&table.calls, |call| function(table, call))
@@ -26,8 +26,7 @@ fn type_of(kind: &Type) -> String {
         Type::Bool => "bool".to_string(),
         Type::Number(bits, _) => format!("u{bits}"),
         Type::Size => "usize".to_string(),
-        Type::Struct(name) if name == "session" => "second::Fields".to_string(),
-        Type::Struct(name) => format!("second::{}", camel(name)),
+        Type::Struct(name) => seconds(name),
         Type::Array(_) | Type::Octets | Type::Sessions => panic!("calls.txt: no type of its own"),
     }
 }

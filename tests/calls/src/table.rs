@@ -201,6 +201,14 @@ pub fn camel(name: &str) -> String {
     words.collect()
 }
 
+/// The second program's struct of this name.
+pub fn seconds(name: &str) -> String {
+    match name {
+        "session" => "second::Fields".to_string(),
+        _ => format!("second::{}", camel(name)),
+    }
+}
+
 /// One text for each, one behind the other.
 pub fn each<T>(items: impl IntoIterator<Item = T>, text: impl Fn(T) -> String) -> String {
     items.into_iter().map(text).collect()

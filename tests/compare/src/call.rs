@@ -3,10 +3,7 @@
 
 use crate::library::{Library, Lost};
 use crate::value::{Given, Value, Way};
-use second::{
-    Answer, Count, Event, Fields as Session, Kinds, Limited, Limits, Loaded, Part, Permission,
-    Reading, Retry,
-};
+use second::Fields;
 use std::panic::{self, AssertUnwindSafe};
 use std::sync::atomic::{AtomicBool, Ordering};
 
@@ -58,7 +55,7 @@ impl Call {
         }
     }
 
-    pub fn on_row(which: Which, row: Vec<Session>) -> Call {
+    pub fn on_row(which: Which, row: Vec<Fields>) -> Call {
         Call {
             row,
             ..Call::new(which)

@@ -2,7 +2,7 @@
 //! of each.
 
 use crate::call::SESSION_OCTETS;
-use second::Fields as Session;
+use second::Fields;
 use std::fmt::Write;
 
 /// What can be asked of anything that a call is given.
@@ -185,7 +185,7 @@ impl Value for Vec<u8> {
     }
 }
 
-impl Given for Vec<Session> {
+impl Given for Vec<Fields> {
     fn put(&self, octets: &mut Vec<u8>) {
         ((SESSION_OCTETS * self.len()) as u32).put(octets);
         for session in self {
@@ -219,19 +219,19 @@ impl Given for Vec<Session> {
     }
 }
 
-impl Value for Vec<Session> {
-    fn get(octets: &mut &[u8]) -> Option<Vec<Session>> {
+impl Value for Vec<Fields> {
+    fn get(octets: &mut &[u8]) -> Option<Vec<Fields>> {
         let length = u32::get(octets)?;
         let mut fields = take(octets, length as usize)?;
         let mut row = Vec::new();
         while !fields.is_empty() {
-            row.push(Session::get(&mut fields)?);
+            row.push(Fields::get(&mut fields)?);
         }
         Some(row)
     }
 
     /// Sessions as the one before, or plainer.
-    fn plainer(&self, take: &mut dyn FnMut(Vec<Session>) -> bool) -> bool {
+    fn plainer(&self, take: &mut dyn FnMut(Vec<Fields>) -> bool) -> bool {
         (0..self.len()).any(|at| {
             let mut with = |session| {
                 let mut row = self.clone();
