@@ -10,6 +10,7 @@ pub fn header(table: &Table) -> String {
         format!("\"{}\"", buffer.name)
     });
     let longest = table.longest_answer();
+    let widest = table.widest_argument();
     let taken = masks(table, |_| true);
     let written = masks(table, |argument| argument.written);
     let given = each(table.arguments(), |argument| {
@@ -87,7 +88,7 @@ static inline void take_given(struct given *given, struct source *source)
 static inline void show_given(const struct given *given,
                               void (*show)(const char *name, const uint8_t *octets, size_t length))
 {{
-    uint8_t octets[64];
+    uint8_t octets[{widest}];
     switch ((enum call)given->call) {{
 {shows}    case CALLS:
         break;

@@ -163,6 +163,14 @@ impl Table {
         }
     }
 
+    /// Octets of the longest argument that is not lent.
+    pub fn widest_argument(&self) -> usize {
+        let all = self.arguments().into_iter();
+        let octets = all.filter(|argument| !argument.kind.is_lent());
+        let octets = octets.map(|argument| self.octets(&argument.kind));
+        octets.max().unwrap_or(0)
+    }
+
     /// Octets of the longest answer.
     pub fn longest_answer(&self) -> usize {
         let all = self
