@@ -120,6 +120,24 @@ fn our_head(numbers: &mut Numbers, kind: u16) -> u16 {
     }
 }
 
+/// Which elements of a list may do something. Of a long one it is mostly a few, and
+/// often at its end: where many do, what one of them does hardly shows.
+fn counting(numbers: &mut Numbers, count: usize) -> Vec<bool> {
+    if count <= 16 || numbers.chance(30) {
+        return vec![true; count];
+    }
+    let mut counting = vec![false; count];
+    for _ in 0..numbers.between(1, 4) {
+        let before_the_last = match numbers.below(3) {
+            0 => 0,
+            1 => numbers.below(count.min(32)),
+            _ => numbers.below(count),
+        };
+        counting[count - 1 - before_the_last] = true;
+    }
+    counting
+}
+
 fn tac_count(numbers: &mut Numbers) -> usize {
     match numbers.weighted(&[8, 60, 27, 5]) {
         0 => 0,
@@ -148,8 +166,11 @@ fn tac(numbers: &mut Numbers, hint: u16, count: usize) -> Vec<u8> {
         value[0] |= numbers.octet() & 0x7F;
     }
     let mut ids: Vec<u16> = Vec::with_capacity(count);
-    for _ in 0..count {
-        let id = ta_id(numbers, hint, &ids);
+    for counts in counting(numbers, count) {
+        let id = match counts {
+            true => ta_id(numbers, hint, &ids),
+            false => numbers.between(14, 0xFFFF) as u16,
+        };
         ids.push(id);
     }
     if count < 64 && numbers.chance(5) {
@@ -205,11 +226,11 @@ fn ta_id(numbers: &mut Numbers, hint: u16, earlier: &[u16]) -> u16 {
 
 fn sac(numbers: &mut Numbers, count: usize) -> Vec<u8> {
     let mut value = vec![numbers.octet()];
-    for _ in 0..count {
-        let app = if numbers.chance(75) {
-            numbers.between(1, 4)
-        } else {
-            numbers.below(8)
+    for counts in counting(numbers, count) {
+        let app = match counts {
+            true if numbers.chance(75) => numbers.between(1, 4),
+            true => numbers.below(8),
+            false => numbers.one_of(&[0, 5, 6, 7]),
         };
         let mut element = (app << 4) as u8;
         if numbers.chance(55) {
