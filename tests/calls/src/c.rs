@@ -3,33 +3,16 @@
 use crate::table::{each, joined, Call, Field, Struct, Table, Type};
 
 pub fn header(table: &Table) -> String {
-    let buffers = joined(table.buffers(), ", ", |buffer| buffer.name.to_uppercase());
-    let numbers = joined(&table.calls, ", ", |call| call.name.to_uppercase());
-    let names = joined(&table.calls, ", ", |call| format!("\"{}\"", call.name));
-    let buffer_names = joined(table.buffers(), ", ", |buffer| {
-        format!("\"{}\"", buffer.name)
-    });
-    let longest = table.longest_answer();
-    let widest = table.widest_argument();
-    let taken = masks(table, |_| true);
-    let written = masks(table, |argument| argument.written);
-    let given = each(table.arguments(), |argument| {
-        match argument.kind.is_lent() {
-            true => String::new(),
-            false => format!("    {};\n", declared(&argument.kind, &argument.name)),
-        }
-    });
-    let structs = each(&table.structs, |each| octets_of(table, each));
-    let pointers = each(&table.calls, |call| pointer(table, call));
-    let members = joined(&table.calls, ", ", |call| format!("word##_{}", call.name));
-    let signatures = each(&table.calls, |call| signature(table, call));
-    let declarations = each(&table.calls, |call| {
-        format!(" \\\n    SIGNATURE_{}(word);", call.name)
-    });
-    let nothing = each(&table.calls, |call| does_nothing(table, call));
-    let takes = each(&table.calls, take_call);
-    let shows = each(&table.calls, |call| show_call(table, call));
-    let makes = each(&table.calls, |call| make_call(table, call));
+    let structs = each(&table.structs, |this| octets_of(table, this));
+    let parts = [
+        numbers(table),
+        given(table),
+        structs,
+        functions(table),
+        taken(table),
+        shown(table),
+        made(table),
+    ];
     format!(
         r#"/* calls.h - the calls of the library as values; made of tests/calls/calls.txt */
 #ifndef CALLS_H
@@ -37,8 +20,27 @@ pub fn header(table: &Table) -> String {
 
 #include "octets.h"
 #include "tacit.h"
+{}
+#endif
+"#,
+        parts.concat()
+    )
+}
 
-enum call {{ {numbers}, CALLS }};
+/// The numbers of calls and buffers, and their names.
+fn numbers(table: &Table) -> String {
+    let upper = |name: &str| name.to_uppercase();
+    let quoted = |name: &str| format!("\"{name}\"");
+    let calls = joined(&table.calls, ", ", |call| upper(&call.name));
+    let names = joined(&table.calls, ", ", |call| quoted(&call.name));
+    let buffers = joined(table.buffers(), ", ", |buffer| upper(&buffer.name));
+    let buffer_names = joined(table.buffers(), ", ", |buffer| quoted(&buffer.name));
+    let lent = masks(table, |_| true);
+    let written = masks(table, |argument| argument.written);
+    let longest = table.longest_answer();
+    format!(
+        r#"
+enum call {{ {calls}, CALLS }};
 enum buffer {{ {buffers}, BUFFERS }};
 enum {{ SAID = {longest} }}; /* octets of the longest answer, field behind field */
 
@@ -46,15 +48,27 @@ static const char *const call_names[CALLS] = {{{names}}};
 static const char *const buffer_names[BUFFERS] = {{{buffer_names}}};
 
 /* The buffers that each call is lent, and those that it may write, a bit for each. */
-static const unsigned lent_to[CALLS] = {{{taken}}};
+static const unsigned lent_to[CALLS] = {{{lent}}};
 static const unsigned written_by[CALLS] = {{{written}}};
+"#
+    )
+}
 
+/// What calls are given, and where it is taken from.
+fn given(table: &Table) -> String {
+    let mut values = table.arguments();
+    values.retain(|argument| !argument.kind.is_lent());
+    let values = each(values, |argument| {
+        format!("    {};\n", declared(&argument.kind, &argument.name))
+    });
+    format!(
+        r#"
 /* All that a call can be given; each takes its own. A row is the fields of its sessions. */
 struct given {{
     uint8_t call;
     bool null; /* lend empty buffers as NULL */
     struct octets lent[BUFFERS];
-{given}}};
+{values}}};
 
 /* Where what a call is given is taken from. */
 struct source {{
@@ -62,7 +76,21 @@ struct source {{
     uint64_t (*number)(struct source *source, int octets);
     struct octets (*buffer)(struct source *source, enum buffer which);
 }};
-{structs}
+"#
+    )
+}
+
+/// The functions of a library with these calls, whatever word their names begin with.
+fn functions(table: &Table) -> String {
+    let pointers = each(&table.calls, |call| pointer(table, call));
+    let members = joined(&table.calls, ", ", |call| format!("word##_{}", call.name));
+    let signatures = each(&table.calls, |call| signature(table, call));
+    let declarations = each(&table.calls, |call| {
+        format!(" \\\n    SIGNATURE_{}(word);", call.name)
+    });
+    let nothing = each(&table.calls, |call| does_nothing(table, call));
+    format!(
+        r#"
 struct calls {{
 {pointers}}};
 
@@ -75,42 +103,63 @@ struct calls {{
 
 /* Calls with the same parameters that do nothing. */
 #define CALLS_THAT_DO_NOTHING(word){nothing}
+"#
+    )
+}
 
+fn taken(table: &Table) -> String {
+    let cases = each(&table.calls, take_call);
+    format!(
+        r#"
 static inline void take_given(struct given *given, struct source *source)
 {{
     switch ((enum call)given->call) {{
-{takes}    case CALLS:
+{cases}    case CALLS:
         break;
     }}
 }}
+"#
+    )
+}
 
+fn shown(table: &Table) -> String {
+    let cases = each(&table.calls, |call| show_call(table, call));
+    let widest = table.widest_argument();
+    format!(
+        r#"
 /* Hands over all that a call is given, as octets. */
 static inline void show_given(const struct given *given,
                               void (*show)(const char *name, const uint8_t *octets, size_t length))
 {{
     uint8_t octets[{widest}];
     switch ((enum call)given->call) {{
-{shows}    case CALLS:
+{cases}    case CALLS:
         break;
     }}
 }}
+"#
+    )
+}
 
+fn made(table: &Table) -> String {
+    let cases = each(&table.calls, |call| make_call(table, call));
+    format!(
+        r#"
 /* Makes a call with its buffers at these places, of the lengths that are given. */
 static inline void make_call(const struct calls *calls, const struct given *given,
                              void *const at[BUFFERS], uint8_t *said)
 {{
     memset(said, 0, SAID);
     switch ((enum call)given->call) {{
-{makes}    case CALLS:
+{cases}    case CALLS:
         break;
     }}
 }}
-
-#endif
 "#
     )
 }
 
+/// For each call a number with a bit for each buffer that is such.
 fn masks(table: &Table, such: impl Fn(&Field) -> bool) -> String {
     let buffers = table.buffers();
     joined(&table.calls, ", ", |call| {

@@ -3,70 +3,24 @@
 use crate::table::{camel, each, joined, seconds, Call, Field, Struct, Table, Type};
 
 pub fn module(table: &Table) -> String {
-    let which = joined(&table.calls, ", ", |call| camel(&call.name));
-    let names = joined(&table.calls, ", ", |call| format!("\"{}\"", call.name));
-    let arguments = table.arguments();
-    let given = each(&arguments, declared);
-    let nothing = each(&arguments, |argument| {
-        format!("            {}: Default::default(),\n", argument.name)
-    });
-    let written: Vec<Field> = table
-        .buffers()
-        .into_iter()
-        .filter(|buffer| buffer.written)
-        .collect();
-    let left = each(&written, declared);
-    let as_found = each(&written, |buffer| {
-        format!("            {0}: call.{0}.clone(),\n", buffer.name)
-    });
-    let gets = each(&table.calls, |call| get_left(call, &written));
-    let given_names = arms(table, |call| {
-        let name = |argument: &Field| format!("(\"{0}\", &self.{0} as &dyn Given)", argument.name);
-        format!("vec![{}]", joined(&call.arguments, ", ", name))
-    });
-    let simpler = arms(table, |call| match call.arguments.is_empty() {
-        true => "false".to_string(),
-        false => joined(&call.arguments, " || ", |argument| {
-            format!(
-                "way.of(&self.{0}, &mut |{0}| take(Call {{ {0}, ..self.clone() }}))",
-                argument.name
-            )
-        }),
-    });
-    let second = arms(table, second_says);
-    let answers = answers(table);
-    let said = each(&answers, |(name, kind)| {
-        format!("    {}({kind}),\n", camel(name))
-    });
-    let said_gets = arms(table, |call| {
-        format!("Said::{}(Value::get(octets)?)", camel(&call.answer))
-    });
-    let said_shows = each(&answers, |(name, _)| {
-        let shown = match table.value(name) {
-            Some(_) => format!("format!(\"{name} {{}}\", value.show())"),
-            None => "value.show()".to_string(),
-        };
-        format!("            Said::{}(value) => {shown},\n", camel(name))
-    });
-    let refusals = each(&answers, |(name, _)| match table.value(name) {
-        Some(_) if name == "refusal" => {
-            "            Said::Refusal(refusal) => *refusal,\n".to_string()
-        }
-        None if table
-            .fields(name)
-            .iter()
-            .any(|field| field.name == "refusal") =>
-        {
-            format!(
-                "            Said::{}(value) => value.refusal,\n",
-                camel(name)
-            )
-        }
-        _ => String::new(),
-    });
     let structs = each(&table.structs, value);
+    [
+        which(table),
+        call(table),
+        asked(table),
+        left(table),
+        said(table),
+        structs,
+    ]
+    .concat()
+}
+
+/// The calls by their names.
+fn which(table: &Table) -> String {
     let session = table.octets(&Type::Struct("session".to_string()));
     let longest = table.longest_answer();
+    let which = joined(&table.calls, ", ", |call| camel(&call.name));
+    let names = joined(&table.calls, ", ", |call| format!("\"{}\"", call.name));
     format!(
         r#"/// Octets of the fields of a session, and of the longest answer.
 pub const SESSION_OCTETS: usize = {session};
@@ -80,7 +34,18 @@ impl Which {{
         [{names}][self as usize]
     }}
 }}
+"#
+    )
+}
 
+/// A call with what it is given.
+fn call(table: &Table) -> String {
+    let given = each(&table.arguments(), declared);
+    let nothing = each(&table.arguments(), |argument| {
+        format!("            {}: Default::default(),\n", argument.name)
+    });
+    format!(
+        r#"
 /// A call with all that it is given; what it does not take is empty or 0.
 #[derive(Clone, Debug, PartialEq, Eq)]
 pub struct Call {{
@@ -94,11 +59,35 @@ impl Call {{
             which,
 {nothing}        }}
     }}
+}}
+"#
+    )
+}
 
+/// What can be asked of a call: what it is given, simpler ones, and what the second
+/// implementation makes of it.
+fn asked(table: &Table) -> String {
+    let given = arms(table, |call| {
+        let name = |argument: &Field| format!("(\"{0}\", &self.{0} as &dyn Given)", argument.name);
+        format!("vec![{}]", joined(&call.arguments, ", ", name))
+    });
+    let simpler = arms(table, |call| match call.arguments.is_empty() {
+        true => "false".to_string(),
+        false => joined(&call.arguments, " || ", |argument| {
+            format!(
+                "way.of(&self.{0}, &mut |{0}| take(Call {{ {0}, ..self.clone() }}))",
+                argument.name
+            )
+        }),
+    });
+    let second = arms(table, second_says);
+    format!(
+        r#"
+impl Call {{
     /// What the call is given, by its names.
     pub fn given(&self) -> Vec<(&'static str, &dyn Given)> {{
         match self.which {{
-{given_names}        }}
+{given}        }}
     }}
 
     /// Hands over the call with one thing simpler until one is taken; tells
@@ -113,7 +102,21 @@ impl Call {{
 {second}        }}
     }}
 }}
+"#
+    )
+}
 
+/// What a call leaves in its buffers.
+fn left(table: &Table) -> String {
+    let mut written = table.buffers();
+    written.retain(|buffer| buffer.written);
+    let left = each(&written, declared);
+    let as_found = each(&written, |buffer| {
+        format!("            {0}: call.{0}.clone(),\n", buffer.name)
+    });
+    let gets = each(&table.calls, |call| get_left(call, &written));
+    format!(
+        r#"
 /// What there is, after a call, of the buffers that calls may write.
 #[derive(Clone, Debug, PartialEq, Eq)]
 pub struct Left {{
@@ -132,7 +135,29 @@ impl Left {{
         Some(left)
     }}
 }}
+"#
+    )
+}
 
+/// What a call answers.
+fn said(table: &Table) -> String {
+    let answers = answers(table);
+    let said = each(&answers, |(name, kind)| {
+        format!("    {}({kind}),\n", camel(name))
+    });
+    let gets = arms(table, |call| {
+        format!("Said::{}(Value::get(octets)?)", camel(&call.answer))
+    });
+    let refusals = each(&answers, |(name, _)| refusal(table, name));
+    let shows = each(&answers, |(name, _)| {
+        let shown = match table.value(name) {
+            Some(_) => format!("format!(\"{name} {{}}\", value.show())"),
+            None => "value.show()".to_string(),
+        };
+        format!("            Said::{}(value) => {shown},\n", camel(name))
+    });
+    format!(
+        r#"
 /// What came back as a value.
 #[derive(Clone, Debug, PartialEq, Eq)]
 pub enum Said {{
@@ -145,7 +170,7 @@ pub enum Said {{
 impl Said {{
     pub fn get(which: Which, octets: &mut &[u8]) -> Option<Said> {{
         Some(match which {{
-{said_gets}        }})
+{gets}        }})
     }}
 
     /// The refusal, or 0 where there can be none.
@@ -157,13 +182,24 @@ impl Said {{
 
     pub fn show(&self) -> String {{
         match self {{
-{said_shows}            Said::Panicked => "broke off".to_string(),
+{shows}            Said::Panicked => "broke off".to_string(),
             Said::Lost(Lost(why)) => why.clone(),
         }}
     }}
 }}
-{structs}"#
+"#
     )
+}
+
+/// An arm for the refusal of an answer that has one.
+fn refusal(table: &Table, answer: &str) -> String {
+    let has_one = |fields: &[Field]| fields.iter().any(|field| field.name == "refusal");
+    let refusal = match table.value(answer) {
+        Some(_) if answer == "refusal" => "*value",
+        None if has_one(table.fields(answer)) => "value.refusal",
+        _ => return String::new(),
+    };
+    format!("            Said::{}(value) => {refusal},\n", camel(answer))
 }
 
 /// An arm for each call.
