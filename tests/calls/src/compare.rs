@@ -68,8 +68,7 @@ impl Call {{
 /// implementation makes of it.
 fn asked(table: &Table) -> String {
     let given = arms(table, |call| {
-        let name = |argument: &Field| format!("(\"{0}\", &self.{0} as &dyn Given)", argument.name);
-        format!("vec![{}]", joined(&call.arguments, ", ", name))
+        format!("vec![{}]", joined(&call.arguments, ", ", given_by_name))
     });
     let simpler = arms(table, |call| match call.arguments.is_empty() {
         true => "false".to_string(),
@@ -114,6 +113,7 @@ fn left(table: &Table) -> String {
     let as_found = each(&written, |buffer| {
         format!("            {0}: call.{0}.clone(),\n", buffer.name)
     });
+    let names = joined(&written, ", ", given_by_name);
     let gets = each(&table.calls, |call| get_left(call, &written));
     format!(
         r#"
@@ -126,6 +126,10 @@ impl Left {{
     pub fn as_found(call: &Call) -> Left {{
         Left {{
 {as_found}        }}
+    }}
+
+    pub fn by_name(&self) -> Vec<(&'static str, &dyn Given)> {{
+        vec![{names}]
     }}
 
     pub fn get(call: &Call, octets: &mut &[u8]) -> Option<Left> {{
@@ -200,6 +204,10 @@ fn refusal(table: &Table, answer: &str) -> String {
         _ => return String::new(),
     };
     format!("            Said::{}(value) => {refusal},\n", camel(answer))
+}
+
+fn given_by_name(field: &Field) -> String {
+    format!("(\"{0}\", &self.{0} as &dyn Given)", field.name)
 }
 
 /// An arm for each call.

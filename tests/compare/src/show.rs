@@ -1,7 +1,7 @@
 //! Calls and what is seen of them, in words.
 
-use crate::call::{Call, Said, Seen};
-use crate::value::{hex, Given};
+use crate::call::{Call, Left, Said, Seen};
+use crate::value::Given;
 use second::Fields;
 use std::fmt::{self, Write};
 
@@ -11,6 +11,12 @@ const FAULTS: [&str; 3] = [
     "octets changed that are only to be read",
     "the same call, made again with its buffers elsewhere, came to something else",
 ];
+
+fn octets(given: &dyn Given) -> Vec<u8> {
+    let mut octets = Vec::new();
+    given.put(&mut octets);
+    octets
+}
 
 /// A line for each session of a row that is not as it was.
 fn changed(row: &[Fields], before: &[Fields]) -> String {
@@ -41,23 +47,15 @@ impl Seen {
         if let Said::Lost(_) = self.said {
             return text;
         }
-        let mut line = |what: &str, octets: &[u8], before: &[u8]| {
-            if octets == before {
-                if !before.is_empty() {
-                    writeln!(text, "           {what} as found").unwrap();
-                }
-            } else {
-                writeln!(text, "           {what} {}", hex(octets)).unwrap();
+        let found = Left::as_found(call);
+        for ((name, left), (_, before)) in self.left.by_name().iter().zip(found.by_name()) {
+            let as_found = octets(*left) == octets(before);
+            match *name {
+                _ if before.length() == 0 => {}
+                _ if as_found => writeln!(text, "           {name:<6} as found").unwrap(),
+                "row" => text.push_str(&changed(&self.left.row, &call.row)),
+                _ => writeln!(text, "           {name:<6} {}", left.show()).unwrap(),
             }
-        };
-        line("record", &self.left.record, &call.record);
-        line("room  ", &self.left.room, &call.room);
-        if self.left.row == call.row {
-            if !call.row.is_empty() {
-                writeln!(text, "           row    as found").unwrap();
-            }
-        } else {
-            text.push_str(&changed(&self.left.row, &call.row));
         }
         for (bit, fault) in FAULTS.iter().enumerate() {
             if self.faults >> bit & 1 == 1 {

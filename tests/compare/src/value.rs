@@ -245,7 +245,7 @@ impl Value for Vec<Fields> {
 
 /// Octets in hexadecimal. A long run of one octet is written once, with how
 /// often it stands there: `[00 x 4092]`.
-pub fn hex(octets: &[u8]) -> String {
+fn hex(octets: &[u8]) -> String {
     if octets.is_empty() {
         return "(none)".to_string();
     }
