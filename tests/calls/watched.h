@@ -110,25 +110,6 @@ static inline const struct tacit_session *guards_of(const struct place *place)
     return guards;
 }
 
-/* Takes the fields of sessions from octets that are all there. */
-struct fields {
-    struct source source;
-    const uint8_t *next;
-};
-
-static inline uint64_t number_of_fields(struct source *source, int octets)
-{
-    struct fields *fields = (struct fields *)source;
-    fields->next += octets;
-    return get_number(fields->next - octets, octets);
-}
-
-static inline void get_session(struct tacit_session *session, const uint8_t *from)
-{
-    struct fields fields = {{.number = number_of_fields}, from};
-    take_session(session, &fields.source);
-}
-
 /* Puts a row into a place, with padding that is another one in the other place. */
 static inline void lend_row(struct place *place, struct octets row)
 {

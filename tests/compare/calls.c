@@ -54,6 +54,11 @@ static uint64_t take_number(struct source *source, int octets)
     return get_number(take_octets((struct batch *)source, (size_t)octets).start, octets);
 }
 
+static const uint8_t *take_fields(struct source *source, size_t length)
+{
+    return take_octets((struct batch *)source, length).start;
+}
+
 static bool take_flag(struct source *source)
 {
     return take_number(source, 1) != 0;
@@ -164,7 +169,8 @@ int main(void)
         make_room(&calls, octets);
         if (fread(calls.start, 1, octets, stdin) != octets)
             stop("a batch is cut short");
-        struct batch batch = {{take_flag, take_number, take_buffer}, {calls.start, octets}};
+        struct batch batch = {{take_flag, take_number, take_fields, take_buffer},
+                              {calls.start, octets}};
         answers.used = LENGTH;
         while (batch.left.length > 0) {
             struct given given = take_call(&batch);

@@ -174,6 +174,14 @@ static uint64_t number(struct source *source, int octets)
     return take((struct scene *)source, octets);
 }
 
+static const uint8_t *fields(struct source *source, size_t length)
+{
+    static uint8_t octets[SESSION_OCTETS];
+    if (length > sizeof octets)
+        stop("a struct is too long");
+    return take_octets((struct scene *)source, octets, length).start;
+}
+
 static struct octets buffer(struct source *source, enum buffer which)
 {
     struct scene *scene = (struct scene *)source;
@@ -308,7 +316,8 @@ static void compare(struct scene *scene, const struct given *given, uint8_t *sai
         show_left("library", given, again, &ours);
         abort();
     }
-    uint8_t *const kept[BUFFERS] = {[RECORD] = scene->record, [ROOM] = scene->room, [ROW] = scene->row};
+    uint8_t *const kept[BUFFERS] = {
+        [RECORD] = scene->record, [ROOM] = scene->room, [ROW] = scene->row};
     for (int i = 0; i < BUFFERS; i++) {
         if (is_written(given, i))
             put_place(kept[i], (enum buffer)i, &theirs.of[i]);
@@ -505,7 +514,7 @@ int LLVMFuzzerTestOneInput(const uint8_t *data, size_t size)
         atexit(tell);
     }
     keep(data, size);
-    scene.source = (struct source){flag, number, buffer};
+    scene.source = (struct source){flag, number, fields, buffer};
     scene.input = (struct octets){data, size};
     scene.count = 0;
     scene.head = (uint8_t)take(&scene, 1);

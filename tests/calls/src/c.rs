@@ -70,10 +70,11 @@ struct given {{
     struct octets lent[BUFFERS];
 {values}}};
 
-/* Where what a call is given is taken from. */
+/* Where what a call is given is taken from; a struct as octets, field behind field. */
 struct source {{
     bool (*flag)(struct source *source);
     uint64_t (*number)(struct source *source, int octets);
+    const uint8_t *(*octets)(struct source *source, size_t length);
     struct octets (*buffer)(struct source *source, enum buffer which);
 }};
 "#
@@ -108,7 +109,7 @@ struct calls {{
 }
 
 fn taken(table: &Table) -> String {
-    let cases = each(&table.calls, take_call);
+    let cases = each(&table.calls, |call| take_call(table, call));
     format!(
         r#"
 static inline void take_given(struct given *given, struct source *source)
@@ -206,19 +207,32 @@ fn put(kind: &Type, to: &str, value: &str) -> String {
     }
 }
 
-/// Statements that take a value of this type from the source.
-fn take(kind: &Type, value: &str) -> String {
+/// A statement that gets a value of this type from behind `from`.
+fn get(kind: &Type, value: &str) -> String {
+    match kind {
+        Type::Number(bits, _) => {
+            let (kind, octets) = (type_of(kind), bits / 8);
+            format!("{value} = ({kind})get_number(from, {octets}), from += {octets};")
+        }
+        Type::Array(count) => format!("memcpy({value}, from, {count}), from += {count};"),
+        Type::Struct(name) => format!("from = get_{name}(&{value}, from);"),
+        _ => panic!("calls.txt: in no struct yet"),
+    }
+}
+
+/// A statement that takes an argument of this type from the source.
+fn take(table: &Table, kind: &Type, value: &str) -> String {
     match kind {
         Type::Bool => format!("{value} = source->flag(source);"),
-        Type::Number(bits, _) => {
-            format!("{value} = ({})source->number(source, {});", type_of(kind), bits / 8)
+        Type::Number(..) | Type::Size => {
+            let (octets, kind) = (table.octets(kind), type_of(kind));
+            format!("{value} = ({kind})source->number(source, {octets});")
         }
-        Type::Size => format!("{value} = (size_t)source->number(source, 8);"),
-        Type::Array(count) => format!(
-            "for (size_t i = 0; i < {count}; i++)\n        {value}[i] = (uint8_t)source->number(source, 1);"
-        ),
-        Type::Struct(name) => format!("take_{name}(&{value}, source);"),
-        Type::Octets | Type::Sessions => panic!("calls.txt: lent in a struct"),
+        Type::Struct(name) => {
+            let octets = table.octets(kind);
+            format!("get_{name}(&{value}, source->octets(source, {octets}));")
+        }
+        _ => panic!("calls.txt: no argument of its own"),
     }
 }
 
@@ -232,11 +246,9 @@ fn octets_of(table: &Table, this: &Struct) -> String {
             put(&field.kind, "to", &format!("from->{}", field.name))
         )
     });
-    let takes = each(&this.fields, |field| {
-        format!(
-            "    {}\n",
-            take(&field.kind, &format!("to->{}", field.name))
-        )
+    let gets = each(&this.fields, |field| {
+        let get = get(&field.kind, &format!("to->{}", field.name));
+        format!("    {get}\n")
     });
     let members = each(&this.fields, |field| {
         format!("{}; ", declared(&field.kind, &field.name))
@@ -251,9 +263,10 @@ static inline uint8_t *put_{name}(uint8_t *to, const struct tacit_{name} *from)
 {puts}    return to;
 }}
 
-static inline void take_{name}(struct tacit_{name} *to, struct source *source)
+static inline const uint8_t *get_{name}(struct tacit_{name} *to, const uint8_t *from)
 {{
-{takes}}}
+{gets}    return from;
+}}
 "#,
         upper = name.to_uppercase()
     )
@@ -311,7 +324,7 @@ fn does_nothing(table: &Table, call: &Call) -> String {
     )
 }
 
-fn take_call(call: &Call) -> String {
+fn take_call(table: &Table, call: &Call) -> String {
     let takes = each(&call.arguments, |argument| match argument.kind.is_lent() {
         true => {
             let buffer = argument.name.to_uppercase();
@@ -319,7 +332,7 @@ fn take_call(call: &Call) -> String {
         }
         false => format!(
             "        {}\n",
-            take(&argument.kind, &format!("given->{}", argument.name))
+            take(table, &argument.kind, &format!("given->{}", argument.name))
         ),
     });
     format!(
