@@ -274,6 +274,25 @@ static void show(const char *what, const uint8_t *octets, size_t length)
     fprintf(stderr, " (%zu octets)\n", length);
 }
 
+/* Shows the sessions of a row that are others than those before; all, if there are none. */
+static void show_row(const uint8_t *row, size_t length, const uint8_t *before)
+{
+    for (size_t i = 0; i < length; i += SESSION_OCTETS) {
+        char name[40];
+        snprintf(name, sizeof name, "session %zu", i / SESSION_OCTETS);
+        if (before == NULL || memcmp(row + i, before + i, SESSION_OCTETS) != 0)
+            show(name, row + i, SESSION_OCTETS);
+    }
+}
+
+static void show_argument(const char *name, const uint8_t *octets, size_t length)
+{
+    if (strcmp(name, buffer_names[ROW]) == 0)
+        show_row(octets, length, NULL);
+    else
+        show(name, octets, length);
+}
+
 static void show_left(const char *who, const struct given *given, const uint8_t *said,
                       const struct places *places)
 {
@@ -281,10 +300,14 @@ static void show_left(const char *who, const struct given *given, const uint8_t 
     fprintf(stderr, "  %s\n", who);
     show("said", said, SAID);
     for (int i = 0; i < BUFFERS; i++) {
-        if (is_written(given, i)) {
-            put_place(left, (enum buffer)i, &places->of[i]);
-            show(buffer_names[i], left, given->lent[i].length);
-        }
+        struct octets before = given->lent[i];
+        if (!is_written(given, i))
+            continue;
+        put_place(left, (enum buffer)i, &places->of[i]);
+        if (i == ROW)
+            show_row(left, before.length, before.start);
+        else
+            show(buffer_names[i], left, before.length);
     }
 }
 
@@ -311,7 +334,7 @@ static void compare(struct scene *scene, const struct given *given, uint8_t *sai
     if (faults != 0 || second_faults != 0 || memcmp(said, again, SAID) != 0 || !same_left(given)) {
         fprintf(stderr, "difference: %s, faults %d, of the second program %d\n",
                 call_names[given->call], faults, second_faults);
-        show_given(given, show);
+        show_given(given, show_argument);
         show_left("second", given, said, &theirs);
         show_left("library", given, again, &ours);
         abort();
