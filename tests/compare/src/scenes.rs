@@ -115,7 +115,7 @@ fn beyond(numbers: &mut Numbers, set: u32, width: usize) -> u32 {
 
 /// The calls on a record, with how often each comes: alone, and as a step of a
 /// session in Ready, Open, Held and Gone.
-const ON_RECORD: [(Which, [usize; 5]); 10] = [
+const ON_RECORD: &[(Which, [usize; 5])] = &[
     (Which::Initialization, [18, 50, 3, 4, 4]),
     (Which::Capability, [20, 3, 40, 4, 4]),
     (Which::LocalChange, [20, 15, 30, 25, 30]),
@@ -148,7 +148,8 @@ fn on_record(
     record: Vec<u8>,
     area: fn(&mut Numbers, hint: u16) -> Vec<u8>,
 ) -> Call {
-    let weights = ON_RECORD.map(|(_, weights)| weights[column]);
+    let weights = ON_RECORD.iter().map(|(_, weights)| weights[column]);
+    let weights: Vec<usize> = weights.collect();
     let (which, _) = ON_RECORD[numbers.weighted(&weights)];
     let session = records::fields(&record);
     let hint = records::hint(&session);
