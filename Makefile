@@ -27,6 +27,7 @@ help:
 	@echo "make c-test     check the library through C: tests, sanitizers, header, demos"
 	@echo "make compare    the library against the second implementation; CALLS=$(CALLS) SEED=$(SEED)"
 	@echo "make mutants    break the second implementation rule by rule; each must be noticed"
+	@echo "make coverage   how much of the library's code such a comparison runs, by function"
 	@echo "make second     the second implementation's own tests"
 	@echo "make fuzz       the two on inputs that a fuzzer makes; SECONDS=60"
 	@echo "make outside    what the library writes read by Wireshark, what FRR sends read by the library"

@@ -4,7 +4,11 @@
 TACIT_LIB_DIR ?= build
 SECONDS       ?= 60
 
-.PHONY: fuzz outside bench
+.PHONY: coverage fuzz outside bench
+
+# How much of the library's code a comparison runs, by function.
+coverage: $(TACIT_LIB_DIR)/libtacit.a
+	@TACIT_LIB_DIR="$(abspath $(TACIT_LIB_DIR))" tests/coverage/run --calls $(CALLS) --seed $(SEED)
 
 # The library against the second program, on inputs that libFuzzer makes.
 fuzz: $(TACIT_LIB_DIR)/libtacit.a

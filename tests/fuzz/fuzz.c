@@ -10,14 +10,16 @@
  *   calls           each an octet and what it takes. Bits 0 to 3 of the octet are
  *                   the call, bit 4 is on or off, bit 5 says where buffers are
  *                   lent, bit 6 lends empty ones as NULL. Areas have a length of
- *                   2 octets, then octets; room has a length of 1; numbers have 4.
+ *                   2 octets, then octets; room has a length of 1; numbers have
+ *                   the octets of their types; what is true or false has one, but
+ *                   the first of a call, which is bit 4.
  *
  * If bit 6 of the first octet is 1, it is a row of sessions and what happens there:
  *
  *   how many        an octet, modulo 67.
  *   groups          of equal sessions, until so many are there. Each is an octet,
  *                   with how many less one in bits 0 to 5 and where they are from
- *                   in bits 6 and 7 (enum source), and what that takes. A session
+ *                   in bits 6 and 7 (enum origin), and what that takes. A session
  *                   in a record begins as above.
  *   calls           each an octet and what it takes. Bits 0 to 3 are what is done
  *                   (enum deed), bits 4 to 6 are as above, bit 7 says that the area
@@ -28,8 +30,7 @@
  * so a short input can have a long area, or a long row.
  */
 #define _DEFAULT_SOURCE
-#include "rows.h"
-#include "second.h"
+#include "watched.h"
 
 #include <fcntl.h>
 
@@ -38,12 +39,14 @@ enum {
     MOST_AREA = 5000,   /* octets */
     MOST_ROOM = 40,     /* octets */
     MOST_RECORD = 0x3F, /* octets */
-    MOST_ROW = 66       /* sessions */
+    MOST_ROW = 66,      /* sessions */
+    ON_RECORD = LOAD,   /* the calls on the record of one session stand before this one */
+    EVENTS = TACIT_EVENT_CLOSED + 1
 };
 
 /* Where the sessions of a group are from. */
-enum source {
-    FROM_FIELDS,         /* 17 octets, as rows.h has them */
+enum origin {
+    FROM_FIELDS,         /* their fields */
     FROM_RECORD,         /* a record */
     FROM_INITIALIZATION, /* a record that had one, with the area that follows */
     FROM_LIST            /* the same, with an area that is made of 2 octets */
@@ -51,18 +54,19 @@ enum source {
 
 /* What is done in a row; the six events have their numbers. */
 enum deed {
-    ANY_EVENT = 6,  /* an event of any number, with all that any of them takes */
-    COUNT,          /* how many sessions use an application */
-    ONE_LIMIT,      /* one limit is set */
-    ALL_LIMITS,     /* the limits are 13 octets */
-    STORE_AND_LOAD, /* a session of the row, or one behind it, in a record and back */
-    LOAD_OCTETS,    /* a record, whose session then stands in the row if it is sound */
+    ANY_EVENT = EVENTS, /* an event of any number, with all that any of them takes */
+    COUNT,              /* how many sessions use an application */
+    ONE_LIMIT,          /* one limit is set */
+    ALL_LIMITS,         /* the limits are 13 octets */
+    STORE_AND_LOAD,     /* a session of the row, or one behind it, in a record and back */
+    LOAD_OCTETS,        /* a record, whose session then stands in the row if it is sound */
     DEEDS
 };
 
+DECLARE_CALLS(second)
+
 static const struct calls library = CALLS_OF(tacit), second = CALLS_OF(second);
-static struct places places;
-static struct place row_place;
+static struct places ours, theirs;
 
 int LLVMFuzzerTestOneInput(const uint8_t *data, size_t size);
 
@@ -70,26 +74,38 @@ int LLVMFuzzerTestOneInput(const uint8_t *data, size_t size);
 /* Inputs                                                                  */
 /* ---------------------------------------------------------------------- */
 
-static uint32_t take(struct octets *input, int octets)
+/* What an input has brought about: the record of a session, or a row. */
+struct scene {
+    struct source source;
+    struct octets input; /* what is left of it */
+    uint8_t head;        /* of the call that is being made */
+    bool flag_taken;     /* bit 4 of it was used */
+    size_t record_length, count;
+    struct tacit_limits limits;
+    uint8_t record[MOST_RECORD], area[MOST_AREA], room[MOST_ROOM];
+    uint8_t row[MOST_ROW * SESSION_OCTETS];
+};
+
+static uint64_t take(struct scene *scene, int octets)
 {
-    uint32_t number = 0;
+    uint64_t number = 0;
     while (octets-- > 0) {
         number <<= 8;
-        if (input->length > 0) {
-            number |= *input->start++;
-            input->length--;
+        if (scene->input.length > 0) {
+            number |= *scene->input.start++;
+            scene->input.length--;
         }
     }
     return number;
 }
 
-static struct octets take_octets(struct octets *input, uint8_t *to, size_t length)
+static struct octets take_octets(struct scene *scene, uint8_t *to, size_t length)
 {
-    size_t there = length < input->length ? length : input->length;
+    size_t there = length < scene->input.length ? length : scene->input.length;
     memset(to, 0, length);
-    memcpy(to, input->start, there);
-    input->start += there;
-    input->length -= there;
+    memcpy(to, scene->input.start, there);
+    scene->input.start += there;
+    scene->input.length -= there;
     return (struct octets){to, length};
 }
 
@@ -98,7 +114,7 @@ static struct octets take_octets(struct octets *input, uint8_t *to, size_t lengt
  * TAC unless bit 15 is, with the applications in bits 0 to 12, all of them with
  * E = 0 if bit 14 is 1.
  */
-static struct octets made_area(uint8_t *area, uint32_t bits)
+static struct octets made_area(uint8_t *area, uint64_t bits)
 {
     static const uint8_t dynamic[] = {0x85, 0x06, 0, 1, 0x80};
     uint8_t *tac = area;
@@ -119,15 +135,66 @@ static struct octets made_area(uint8_t *area, uint32_t bits)
     return (struct octets){area, (size_t)(next - area)};
 }
 
-static struct octets take_area(struct octets *input, bool made, uint8_t *area)
+static struct octets take_area(struct scene *scene, bool made)
 {
-    uint32_t number = take(input, 2);
-    return made ? made_area(area, number) : take_octets(input, area, number % (MOST_AREA + 1));
+    uint64_t number = take(scene, 2);
+    return made ? made_area(scene->area, number)
+                : take_octets(scene, scene->area, number % (MOST_AREA + 1));
 }
 
-static struct octets take_room(struct octets *input, uint8_t *room)
+static struct octets take_room(struct scene *scene)
 {
-    return take_octets(input, room, take(input, 1) % (MOST_ROOM + 1));
+    return take_octets(scene, scene->room, take(scene, 1) % (MOST_ROOM + 1));
+}
+
+/* A record of 22 octets, or of another length, in an octet, if bit 4 of the head is 1. */
+static void take_record(struct scene *scene)
+{
+    scene->record_length = scene->head & 0x10 ? take(scene, 1) & MOST_RECORD : TACIT_RECORD_LENGTH;
+    take_octets(scene, scene->record, scene->record_length);
+}
+
+static size_t take_row_number(struct scene *scene)
+{
+    uint64_t octet = take(scene, 1);
+    return (size_t)(octet < 0xFF ? octet % (scene->count + 2) : take(scene, 8));
+}
+
+/* What calls take, as they are described. */
+static bool flag(struct source *source)
+{
+    struct scene *scene = (struct scene *)source;
+    bool first = !scene->flag_taken;
+    scene->flag_taken = true;
+    return first ? scene->head & 0x10 : take(scene, 1) & 1;
+}
+
+static uint64_t number(struct source *source, int octets)
+{
+    return take((struct scene *)source, octets);
+}
+
+static const uint8_t *fields(struct source *source, size_t length)
+{
+    static uint8_t octets[SESSION_OCTETS];
+    if (length > sizeof octets)
+        stop("a struct is too long");
+    return take_octets((struct scene *)source, octets, length).start;
+}
+
+static struct octets buffer(struct source *source, enum buffer which)
+{
+    struct scene *scene = (struct scene *)source;
+    switch (which) {
+    case AREA:
+        return take_area(scene, false);
+    case ROOM:
+        return take_room(scene);
+    case ROW:
+        return (struct octets){scene->row, scene->count * SESSION_OCTETS};
+    default:
+        return (struct octets){scene->record, scene->record_length};
+    }
 }
 
 /*
@@ -146,6 +213,56 @@ static void keep(const uint8_t *data, size_t size)
 }
 
 /* ---------------------------------------------------------------------- */
+/* What calls come to                                                      */
+/* ---------------------------------------------------------------------- */
+
+enum { MADE = CALLS + EVENTS + 1, REFUSALS = 256, OUTCOMES = 4 };
+
+/* How often each call for rows was made, by what it came to. */
+static unsigned long refusals[MADE][REFUSALS], outcomes[MADE][OUTCOMES];
+
+/* Events by number are told apart. */
+static size_t made_number(const struct given *given)
+{
+    if (given->call != ROW_EVENT)
+        return given->call;
+    return CALLS + (given->event.which < EVENTS ? given->event.which : EVENTS);
+}
+
+static void count_made(const struct given *given, const uint8_t *said)
+{
+    size_t i = made_number(given);
+    if (given->call < ON_RECORD)
+        return;
+    refusals[i][said[0]]++;
+    if (given->call == ROW_EVENT && said[0] == 0)
+        outcomes[i][said[1] % OUTCOMES]++;
+}
+
+static void tell(void)
+{
+    for (size_t i = ON_RECORD; i < MADE; i++) {
+        bool any = false;
+        for (int j = 0; j < REFUSALS; j++) {
+            if (refusals[i][j] == 0)
+                continue;
+            if (!any)
+                fprintf(stderr, "  %-20s", call_names[i < CALLS ? i : ROW_EVENT]);
+            if (!any && i >= CALLS)
+                fprintf(stderr, " %zu,", i - CALLS);
+            any = true;
+            fprintf(stderr, " %d: %lu", j, refusals[i][j]);
+        }
+        for (uint32_t j = 0; j < OUTCOMES; j++) {
+            if (outcomes[i][j] > 0)
+                fprintf(stderr, ", %s %lu", tacit_outcome_text(j), outcomes[i][j]);
+        }
+        if (any)
+            fprintf(stderr, "\n");
+    }
+}
+
+/* ---------------------------------------------------------------------- */
 /* Differences                                                             */
 /* ---------------------------------------------------------------------- */
 
@@ -157,260 +274,127 @@ static void show(const char *what, const uint8_t *octets, size_t length)
     fprintf(stderr, " (%zu octets)\n", length);
 }
 
-static const char *name_of(uint8_t call)
+/* Shows the sessions of a row that are others than those before; all, if there are none. */
+static void show_row(const uint8_t *row, size_t length, const uint8_t *before)
 {
-    static const char *const names[CALLS] = {
-        "read", "create", "initialization", "capability", "local_change", "mismatch", "hello",
-        "closed", "permitted", "permitted_kinds", "retry_interval", "sound"};
-    return names[call];
-}
-
-/* Makes a call of both; the record then is as it was left. */
-static void compare(const struct given *given, bool to_the_end, uint8_t *record, uint8_t *room)
-{
-    uint8_t theirs[SAID], ours[SAID];
-    struct octets before = given->record;
-    uint8_t *after = malloc(before.length + 1);
-    if (after == NULL)
-        stop("no memory");
-    memcpy(after, before.start, before.length);
-    uint8_t *written = malloc(given->room.length + 1);
-    if (written == NULL)
-        stop("no memory");
-    memcpy(written, given->room.start, given->room.length);
-    make_call(&second, given, after, given->area.start, written, theirs);
-    uint8_t faults = make_watched(&library, given, &places, to_the_end, ours);
-    if (faults != 0 || memcmp(ours, theirs, SAID) != 0 ||
-        memcmp(places.record.lent, after, before.length) != 0 ||
-        memcmp(places.room.lent, written, given->room.length) != 0) {
-        fprintf(stderr, "difference: %s, faults %d\n", name_of(given->call), faults);
-        show("record", before.start, before.length);
-        show("area", given->area.start, given->area.length);
-        show("room", given->room.start, given->room.length);
-        fprintf(stderr, "  %-14s %d, %08lX, %08lX, %08lX\n", "numbers", given->bit[0],
-                (unsigned long)given->number[0], (unsigned long)given->number[1],
-                (unsigned long)given->number[2]);
-        show("second said", theirs, SAID);
-        show("second record", after, before.length);
-        show("second room", written, given->room.length);
-        show("library said", ours, SAID);
-        show("library record", places.record.lent, before.length);
-        show("library room", places.room.lent, given->room.length);
-        abort();
-    }
-    memcpy(record, after, before.length);
-    memcpy(room, written, given->room.length);
-    free(written);
-    free(after);
-}
-
-/* ---------------------------------------------------------------------- */
-/* Rows: differences                                                       */
-/* ---------------------------------------------------------------------- */
-
-/* What a call on a row left, and what it said, by the second program. */
-struct row_left {
-    uint8_t said[ROW_SAID];
-    uint8_t record[MOST_RECORD], row[MOST_ROW * FIELDS], room[MOST_ROOM];
-};
-
-enum { MADE = 11, REFUSALS = 13, OUTCOMES = 4 };
-
-/* How often each call on rows was made, by what it came to. */
-static unsigned long refusals[MADE][REFUSALS], outcomes[MADE][OUTCOMES];
-static const char *const made_names[MADE] = {
-    "row initialization", "row capability", "row local change", "row mismatch", "row hello",
-    "row closed",         "row no event",   "row count",        "set limit",    "store",
-    "load"};
-
-static size_t made_number(const struct row_given *given)
-{
-    switch (given->call) {
-    case ROW_COUNT:
-        return 7;
-    case SET_LIMIT:
-        return 8;
-    case STORE:
-        return 9;
-    case LOAD:
-        return 10;
-    default:
-        return given->event.which < 6 ? given->event.which : 6;
+    for (size_t i = 0; i < length; i += SESSION_OCTETS) {
+        char name[40];
+        snprintf(name, sizeof name, "session %zu", i / SESSION_OCTETS);
+        if (before == NULL || memcmp(row + i, before + i, SESSION_OCTETS) != 0)
+            show(name, row + i, SESSION_OCTETS);
     }
 }
 
-static void tell(void)
+static void show_argument(const char *name, const uint8_t *octets, size_t length)
 {
-    for (size_t i = 0; i < MADE; i++) {
-        fprintf(stderr, "  %-20s", made_names[i]);
-        for (int j = 0; j < REFUSALS; j++) {
-            if (refusals[i][j] > 0)
-                fprintf(stderr, " %d: %lu", j, refusals[i][j]);
-        }
-        for (uint32_t j = 0; j < OUTCOMES; j++) {
-            if (outcomes[i][j] > 0)
-                fprintf(stderr, ", %s %lu", tacit_outcome_text(j), outcomes[i][j]);
-        }
-        fprintf(stderr, "\n");
-    }
+    if (strcmp(name, buffer_names[ROW]) == 0)
+        show_row(octets, length, NULL);
+    else
+        show(name, octets, length);
 }
 
-static void count_made(const struct row_given *given, const uint8_t *said)
+static void show_left(const char *who, const struct given *given, const uint8_t *said,
+                      const struct places *places)
 {
-    size_t i = made_number(given);
-    refusals[i][said[0]]++;
-    if (given->call == ROW_EVENT && said[0] == 0)
-        outcomes[i][said[1]]++;
-}
-
-/* Shows the sessions of a row that are others than those; all of them, if it is those. */
-static void show_row(const char *what, const uint8_t *row, struct octets those)
-{
-    for (size_t i = 0; i < those.length; i += FIELDS) {
-        if (row == those.start || memcmp(row + i, those.start + i, FIELDS) != 0) {
-            char name[40];
-            snprintf(name, sizeof name, "%s %zu", what, i / FIELDS);
-            show(name, row + i, FIELDS);
-        }
-    }
-}
-
-static void show_given(const struct row_given *given)
-{
-    const struct tacit_event *event = &given->event;
-    uint8_t session[FIELDS];
-    put_session(session, &given->session);
-    show_row("session", given->row.start, given->row);
-    fprintf(stderr, "  %-14s %zu of %zu\n", "row number", given->at, given->row.length / FIELDS);
-    fprintf(stderr, "  %-14s %08lX, %08lX, %08lX, %08lX\n", "event", (unsigned long)event->which,
-            (unsigned long)event->ta_id, (unsigned long)event->on, (unsigned long)event->number);
-    show("limits", given->limits.of, sizeof given->limits.of);
-    show("to be stored", session, FIELDS);
-    show("record", given->record.start, given->record.length);
-    show("area", given->area.start, given->area.length);
-    show("room", given->room.start, given->room.length);
-}
-
-static void show_left(const char *who, const struct row_given *given, const uint8_t *said,
-                      const uint8_t *record, const uint8_t *row, const uint8_t *room)
-{
+    static uint8_t left[LARGEST];
     fprintf(stderr, "  %s\n", who);
-    show("said", said, ROW_SAID);
-    show("record", record, given->record.length);
-    show_row("session", row, given->row);
-    show("room", room, given->room.length);
-}
-
-/* Makes a call on a row of the second program. */
-static void make_second(const struct row_given *given, struct row_left *left)
-{
-    struct tacit_session row[MOST_ROW];
-    size_t count = given->row.length / FIELDS;
-    const struct tacit_event *event = &given->event;
-    uint8_t *said = memset(left->said, 0, ROW_SAID);
-    memcpy(left->record, given->record.start, given->record.length);
-    memcpy(left->room, given->room.start, given->room.length);
-    for (size_t i = 0; i < count; i++)
-        get_session(row + i, given->row.start + FIELDS * i);
-    if (given->call == LOAD) {
-        struct tacit_loaded answer = second_load(left->record, given->record.length);
-        said[0] = answer.refusal;
-        put_session(said + 1, &answer.session);
-    } else if (given->call == STORE) {
-        said[0] = second_store(given->session, left->record, given->record.length);
-    } else if (given->call == SET_LIMIT) {
-        struct tacit_limited answer = second_set_limit(given->limits, event->ta_id, event->number);
-        said[0] = answer.refusal;
-        memcpy(said + 1, answer.limits.of, sizeof answer.limits.of);
-    } else if (given->call == ROW_COUNT) {
-        struct tacit_count answer = second_row_count(row, count, event->ta_id);
-        said[0] = answer.refusal;
-        said[1] = answer.count;
-    } else {
-        put_answer(said, second_row_event(row, count, given->at, *event, given->limits,
-                                          given->area.start, given->area.length, left->room,
-                                          given->room.length));
+    show("said", said, SAID);
+    for (int i = 0; i < BUFFERS; i++) {
+        struct octets before = given->lent[i];
+        if (!is_written(given, i))
+            continue;
+        put_place(left, (enum buffer)i, &places->of[i]);
+        if (i == ROW)
+            show_row(left, before.length, before.start);
+        else
+            show(buffer_names[i], left, before.length);
     }
-    for (size_t i = 0; i < count; i++)
-        put_session(left->row + FIELDS * i, row + i);
 }
 
-/* Makes a call on a row of both, and hands back what it left. */
-static void compare_row(const struct row_given *given, bool to_the_end, struct row_left *left)
+static bool same_left(const struct given *given)
 {
-    uint8_t ours[ROW_SAID];
-    make_second(given, left);
-    uint8_t faults = make_row_watched(given, &places, &row_place, to_the_end, ours);
-    if (faults != 0 || memcmp(ours, left->said, ROW_SAID) != 0 ||
-        memcmp(places.record.lent, left->record, given->record.length) != 0 ||
-        !row_as_it_was(&row_place, (struct octets){left->row, given->row.length}) ||
-        memcmp(places.room.lent, left->room, given->room.length) != 0) {
-        static uint8_t row[MOST_ROW * FIELDS];
-        put_row(row, &row_place);
-        fprintf(stderr, "difference: %s, faults %d\n", made_names[made_number(given)], faults);
-        show_given(given);
-        show_left("second", given, left->said, left->record, left->row, left->room);
-        show_left("library", given, ours, places.record.lent, row, places.room.lent);
+    static uint8_t left[LARGEST];
+    for (int i = 0; i < BUFFERS; i++) {
+        if (is_written(given, i)) {
+            put_place(left, (enum buffer)i, &theirs.of[i]);
+            if (!stands((enum buffer)i, &ours.of[i], (struct octets){left, given->lent[i].length}))
+                return false;
+        }
+    }
+    return true;
+}
+
+/* Makes a call of both; the scene then is as it was left. */
+static void compare(struct scene *scene, const struct given *given, uint8_t *said)
+{
+    uint8_t again[SAID];
+    bool to_the_end = scene->head & 0x20;
+    uint8_t second_faults = make_watched(&second, given, &theirs, to_the_end, said);
+    uint8_t faults = make_watched(&library, given, &ours, to_the_end, again);
+    if (faults != 0 || second_faults != 0 || memcmp(said, again, SAID) != 0 || !same_left(given)) {
+        fprintf(stderr, "difference: %s, faults %d, of the second program %d\n",
+                call_names[given->call], faults, second_faults);
+        show_given(given, show_argument);
+        show_left("second", given, said, &theirs);
+        show_left("library", given, again, &ours);
         abort();
     }
-    count_made(given, left->said);
+    uint8_t *const kept[BUFFERS] = {
+        [RECORD] = scene->record, [ROOM] = scene->room, [ROW] = scene->row};
+    for (int i = 0; i < BUFFERS; i++) {
+        if (is_written(given, i))
+            put_place(kept[i], (enum buffer)i, &theirs.of[i]);
+    }
+    count_made(given, said);
 }
 
 /* ---------------------------------------------------------------------- */
 /* One session                                                             */
 /* ---------------------------------------------------------------------- */
 
-/* Begins a session as the octet says, and hands back its record. */
-static struct octets begin(struct octets *input, uint8_t how, uint8_t *record, uint8_t *room)
+/* A call that is given the record and the row, and nothing else yet. */
+static struct given call_of(struct scene *scene, enum call call)
 {
-    memset(record, 0, MOST_RECORD);
-    if (how & 0x80)
-        return take_octets(input, record, how & MOST_RECORD);
-    struct octets kept = {record, TACIT_RECORD_LENGTH}, none = {room, 0};
-    struct given given = {.call = CREATE, .record = kept, .area = none, .room = none};
-    for (int i = 0; i < 4; i++)
-        given.bit[i] = how >> i & 1;
-    given.number[0] = take(input, 2);
-    given.number[1] = take(input, 2);
-    given.number[2] = take(input, 4);
-    compare(&given, how & 0x20, record, room);
-    return kept;
+    struct given given = {.call = (uint8_t)call, .null = scene->head & 0x40};
+    given.lent[RECORD] = buffer(&scene->source, RECORD);
+    given.lent[ROW] = buffer(&scene->source, ROW);
+    given.lent[AREA] = (struct octets){scene->area, 0};
+    given.lent[ROOM] = (struct octets){scene->room, 0};
+    return given;
 }
 
-static void lead_session(struct octets *input, uint8_t how)
+/* Begins a session in a record, as the head says. */
+static void begin(struct scene *scene)
 {
-    static uint8_t record[MOST_RECORD], area[MOST_AREA], room[MOST_ROOM];
-    struct octets kept = begin(input, how, record, room), none = {room, 0};
-    for (int calls = 0; calls < MOST_CALLS && input->length > 0; calls++) {
-        uint8_t head = (uint8_t)take(input, 1);
-        struct given given = {.call = (head & 0x0F) % CALLS,
-                              .bit = {head & 0x10},
-                              .null = head & 0x40,
-                              .record = kept,
-                              .area = none,
-                              .room = none};
-        switch ((enum call)given.call) {
-        case READ:
-        case INITIALIZATION:
-        case CAPABILITY:
-            given.area = take_area(input, false, area);
-            break;
-        case CREATE:
-            given.number[1] = take(input, 4);
-            given.number[2] = take(input, 4);
-            /* fall through */
-        case HELLO:
-        case PERMITTED:
-            given.number[0] = take(input, 4);
-            break;
-        case LOCAL_CHANGE:
-            given.number[0] = take(input, 4);
-            given.room = take_room(input, room);
-            break;
-        default:
-            break;
-        }
-        compare(&given, head & 0x20, record, room);
+    uint8_t how = scene->head, said[SAID];
+    memset(scene->record, 0, MOST_RECORD);
+    scene->record_length = how & 0x80 ? how & MOST_RECORD : TACIT_RECORD_LENGTH;
+    if (how & 0x80) {
+        take_octets(scene, scene->record, scene->record_length);
+        return;
+    }
+    struct given given = call_of(scene, CREATE);
+    given.null = false;
+    given.initiating = how & 1;
+    given.active = how >> 1 & 1;
+    given.uses_tac = how >> 2 & 1;
+    given.drops = how >> 3 & 1;
+    given.protected_kinds = (uint32_t)take(scene, 2);
+    given.enabled = (uint32_t)take(scene, 2);
+    given.first_number = (uint32_t)take(scene, 4);
+    compare(scene, &given, said);
+}
+
+static void lead_session(struct scene *scene)
+{
+    begin(scene);
+    for (int calls = 0; calls < MOST_CALLS && scene->input.length > 0; calls++) {
+        uint8_t said[SAID];
+        scene->head = (uint8_t)take(scene, 1);
+        scene->flag_taken = false;
+        struct given given = {.call = (scene->head & 0x0F) % ON_RECORD, .null = scene->head & 0x40};
+        take_given(&given, &scene->source);
+        compare(scene, &given, said);
     }
 }
 
@@ -418,189 +402,148 @@ static void lead_session(struct octets *input, uint8_t how)
 /* A row of sessions                                                       */
 /* ---------------------------------------------------------------------- */
 
-/* A row as an input has brought it about, and memory for what is lent beside it. */
-struct scene {
-    size_t count; /* sessions */
-    struct tacit_limits limits;
-    uint8_t row[MOST_ROW * FIELDS];
-    uint8_t record[MOST_RECORD], area[MOST_AREA], room[MOST_ROOM];
-};
-
-/* A call on the row that is given no octets beside it. */
-static struct row_given call_of(struct scene *scene, enum row_call call, uint8_t head)
+/* Loads the session of the record; hands back the refusal. */
+static uint8_t load(struct scene *scene, uint8_t *fields)
 {
-    return (struct row_given){.call = (uint8_t)call,
-                              .null = head & 0x40,
-                              .limits = scene->limits,
-                              .record = {scene->record, 0},
-                              .row = {scene->row, scene->count * FIELDS},
-                              .area = {scene->area, 0},
-                              .room = {scene->room, 0}};
-}
-
-static size_t take_row_number(struct octets *input, size_t count)
-{
-    uint32_t octet = take(input, 1);
-    if (octet < 0xFF)
-        return octet % (count + 2);
-    uint64_t high = take(input, 4);
-    return (size_t)(high << 32 | take(input, 4));
-}
-
-/* A record of 22 octets, or of another length, in an octet, if bit 4 of the head is 1. */
-static struct octets take_record(struct octets *input, uint8_t head, uint8_t *record)
-{
-    size_t length = head & 0x10 ? take(input, 1) & MOST_RECORD : TACIT_RECORD_LENGTH;
-    return take_octets(input, record, length);
-}
-
-/* Loads the session of a record; hands back the refusal. */
-static uint8_t load(struct scene *scene, struct octets record, uint8_t head, uint8_t *fields)
-{
-    struct row_given given = call_of(scene, LOAD, head);
-    struct row_left left;
-    given.record = record;
-    compare_row(&given, head & 0x20, &left);
-    memcpy(fields, left.said + 1, FIELDS);
-    return left.said[0];
+    uint8_t said[SAID];
+    struct given given = call_of(scene, LOAD);
+    compare(scene, &given, said);
+    memcpy(fields, said + 1, SESSION_OCTETS);
+    return said[0];
 }
 
 /* A session that begins in a record and may have had its Initialization there. */
-static void take_session(struct octets *input, enum source source, struct scene *scene,
-                         uint8_t *fields)
+static void take_in_record(struct scene *scene, enum origin origin, uint8_t *fields)
 {
-    uint8_t how = (uint8_t)take(input, 1);
-    struct octets record = begin(input, how, scene->record, scene->room);
-    if (source != FROM_RECORD) {
-        struct given given = {.call = INITIALIZATION,
-                              .record = record,
-                              .area = take_area(input, source == FROM_LIST, scene->area),
-                              .room = {scene->room, 0}};
-        compare(&given, how & 0x20, scene->record, scene->room);
+    uint8_t said[SAID];
+    scene->head = (uint8_t)take(scene, 1);
+    begin(scene);
+    if (origin != FROM_RECORD) {
+        struct given given = call_of(scene, INITIALIZATION);
+        given.null = false;
+        given.lent[AREA] = take_area(scene, origin == FROM_LIST);
+        compare(scene, &given, said);
     }
-    load(scene, record, how, fields);
+    load(scene, fields);
 }
 
-static void take_group(struct octets *input, size_t most, struct scene *scene)
+static void take_group(struct scene *scene, size_t most)
 {
-    uint8_t head = (uint8_t)take(input, 1), fields[FIELDS];
-    enum source source = (enum source)(head >> 6);
+    uint8_t head = (uint8_t)take(scene, 1), fields[SESSION_OCTETS];
+    enum origin origin = (enum origin)(head >> 6);
     size_t many = (head & 0x3Fu) + 1;
-    if (source == FROM_FIELDS)
-        take_octets(input, fields, FIELDS);
+    if (origin == FROM_FIELDS)
+        take_octets(scene, fields, SESSION_OCTETS);
     else
-        take_session(input, source, scene, fields);
+        take_in_record(scene, origin, fields);
     for (; many > 0 && scene->count < most; many--)
-        memcpy(scene->row + FIELDS * scene->count++, fields, FIELDS);
+        memcpy(scene->row + SESSION_OCTETS * scene->count++, fields, SESSION_OCTETS);
 }
 
 /* An event takes what it reads; one of any number takes everything. */
-static void take_event(struct octets *input, uint8_t head, struct scene *scene)
+static void take_row_event(struct scene *scene, uint32_t deed)
 {
-    struct row_given given = call_of(scene, ROW_EVENT, head);
-    struct row_left left;
-    uint32_t deed = (head & 0x0F) % DEEDS;
+    uint8_t said[SAID];
+    struct given given = call_of(scene, ROW_EVENT);
     bool any = deed == ANY_EVENT;
-    given.at = take_row_number(input, scene->count);
-    given.event.which = any ? take(input, 4) : deed;
-    given.event.on = any ? take(input, 4) : head >> 4 & 1;
+    given.limits = scene->limits;
+    given.at = take_row_number(scene);
+    given.event.which = any ? (uint32_t)take(scene, 4) : deed;
+    given.event.on = any ? (uint32_t)take(scene, 4) : scene->head >> 4 & 1;
     if (any || deed == TACIT_EVENT_LOCAL_CHANGE)
-        given.event.ta_id = take(input, 4);
+        given.event.ta_id = (uint32_t)take(scene, 4);
     if (any || deed == TACIT_EVENT_HELLO)
-        given.event.number = take(input, 4);
+        given.event.number = (uint32_t)take(scene, 4);
     if (any || deed == TACIT_EVENT_INITIALIZATION || deed == TACIT_EVENT_CAPABILITY)
-        given.area = take_area(input, head & 0x80, scene->area);
+        given.lent[AREA] = take_area(scene, scene->head & 0x80);
     if (any || deed == TACIT_EVENT_LOCAL_CHANGE)
-        given.room = take_room(input, scene->room);
-    compare_row(&given, head & 0x20, &left);
-    memcpy(scene->row, left.row, given.row.length);
+        given.lent[ROOM] = take_room(scene);
+    compare(scene, &given, said);
 }
 
-static void count_row(struct octets *input, uint8_t head, struct scene *scene)
+static void count_row(struct scene *scene)
 {
-    struct row_given given = call_of(scene, ROW_COUNT, head);
-    struct row_left left;
-    given.event.ta_id = take(input, 4);
-    compare_row(&given, head & 0x20, &left);
+    uint8_t said[SAID];
+    struct given given = call_of(scene, ROW_COUNT);
+    given.ta_id = (uint32_t)take(scene, 4);
+    compare(scene, &given, said);
 }
 
-static void set_limit(struct octets *input, uint8_t head, struct scene *scene)
+static void set_limit(struct scene *scene)
 {
-    struct row_given given = call_of(scene, SET_LIMIT, head);
-    struct row_left left;
-    given.event.ta_id = take(input, 4);
-    given.event.number = take(input, 4);
-    compare_row(&given, head & 0x20, &left);
-    memcpy(scene->limits.of, left.said + 1, sizeof scene->limits.of);
+    uint8_t said[SAID];
+    struct given given = call_of(scene, SET_LIMIT);
+    given.limits = scene->limits;
+    given.ta_id = (uint32_t)take(scene, 4);
+    given.limit = (uint32_t)take(scene, 4);
+    compare(scene, &given, said);
+    memcpy(scene->limits.of, said + 1, sizeof scene->limits.of);
 }
 
-static void store_and_load(struct octets *input, uint8_t head, struct scene *scene)
+static void store_and_load(struct scene *scene)
 {
-    struct row_given given = call_of(scene, STORE, head);
-    struct row_left left;
-    uint8_t fields[FIELDS];
-    size_t at = take_row_number(input, scene->count);
+    uint8_t fields[SESSION_OCTETS], said[SAID];
+    size_t at = take_row_number(scene);
     if (at < scene->count)
-        memcpy(fields, scene->row + FIELDS * at, FIELDS);
+        memcpy(fields, scene->row + SESSION_OCTETS * at, SESSION_OCTETS);
     else
-        take_octets(input, fields, FIELDS);
+        take_octets(scene, fields, SESSION_OCTETS);
+    take_record(scene);
+    struct given given = call_of(scene, STORE);
     get_session(&given.session, fields);
-    given.record = take_record(input, head, scene->record);
-    compare_row(&given, head & 0x20, &left);
-    memcpy(scene->record, left.record, given.record.length);
-    load(scene, given.record, head, fields);
+    compare(scene, &given, said);
+    load(scene, fields);
 }
 
-static void load_octets(struct octets *input, uint8_t head, struct scene *scene)
+static void load_octets(struct scene *scene)
 {
-    uint8_t fields[FIELDS];
-    size_t at = take_row_number(input, scene->count);
-    struct octets record = take_record(input, head, scene->record);
-    if (load(scene, record, head, fields) == 0 && at < scene->count)
-        memcpy(scene->row + FIELDS * at, fields, FIELDS);
+    uint8_t fields[SESSION_OCTETS];
+    size_t at = take_row_number(scene);
+    take_record(scene);
+    if (load(scene, fields) == 0 && at < scene->count)
+        memcpy(scene->row + SESSION_OCTETS * at, fields, SESSION_OCTETS);
 }
 
-static void lead_row(struct octets *input)
+static void lead_row(struct scene *scene)
 {
-    static struct scene scene;
-    size_t most = take(input, 1) % (MOST_ROW + 1);
-    scene.count = 0;
-    scene.limits = tacit_no_limits();
-    while (scene.count < most)
-        take_group(input, most, &scene);
-    for (int calls = 0; calls < MOST_CALLS && input->length > 0; calls++) {
-        uint8_t head = (uint8_t)take(input, 1);
-        uint8_t deed = (head & 0x0F) % DEEDS;
+    size_t most = (size_t)take(scene, 1) % (MOST_ROW + 1);
+    scene->limits = tacit_no_limits();
+    while (scene->count < most)
+        take_group(scene, most);
+    for (int calls = 0; calls < MOST_CALLS && scene->input.length > 0; calls++) {
+        scene->head = (uint8_t)take(scene, 1);
+        uint8_t deed = (scene->head & 0x0F) % DEEDS;
         if (deed <= ANY_EVENT)
-            take_event(input, head, &scene);
+            take_row_event(scene, deed);
         else if (deed == COUNT)
-            count_row(input, head, &scene);
+            count_row(scene);
         else if (deed == ONE_LIMIT)
-            set_limit(input, head, &scene);
+            set_limit(scene);
         else if (deed == ALL_LIMITS)
-            take_octets(input, scene.limits.of, sizeof scene.limits.of);
+            take_octets(scene, scene->limits.of, sizeof scene->limits.of);
         else if (deed == STORE_AND_LOAD)
-            store_and_load(input, head, &scene);
+            store_and_load(scene);
         else
-            load_octets(input, head, &scene);
+            load_octets(scene);
     }
 }
 
 int LLVMFuzzerTestOneInput(const uint8_t *data, size_t size)
 {
-    if (places.record.start == NULL) {
-        prepare(&places.record);
-        prepare(&places.area);
-        prepare(&places.room);
-        prepare(&row_place);
+    static struct scene scene;
+    if (ours.of[0].start == NULL) {
+        prepare(&ours);
+        prepare(&theirs);
         atexit(tell);
     }
     keep(data, size);
-    struct octets input = {data, size};
-    uint8_t how = (uint8_t)take(&input, 1);
-    if (how & 0x40)
-        lead_row(&input);
+    scene.source = (struct source){flag, number, fields, buffer};
+    scene.input = (struct octets){data, size};
+    scene.count = 0;
+    scene.head = (uint8_t)take(&scene, 1);
+    if (scene.head & 0x40)
+        lead_row(&scene);
     else
-        lead_session(&input, how);
+        lead_session(&scene);
     return 0;
 }

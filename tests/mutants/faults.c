@@ -1,36 +1,20 @@
 /*
  * faults.c - the library with a fault of the kind that no answer shows
  *
- * Linked in front of the library with --wrap for the call that it spoils. FAULT
- * says which one: see run.
+ * Linked in front of the library with --wrap for the calls that are spoiled here.
+ * FAULT says which one is: see run.
  */
-#include "tacit.h"
+#include "calls.h"
 
-struct tacit_answer __real_tacit_hello(uint8_t *record, size_t record_len, uint32_t number);
-struct tacit_answer __wrap_tacit_hello(uint8_t *record, size_t record_len, uint32_t number);
-struct tacit_reading __real_tacit_read(const uint8_t *area, size_t area_len);
-struct tacit_reading __wrap_tacit_read(const uint8_t *area, size_t area_len);
-struct tacit_answer __real_tacit_row_event(struct tacit_session *row, size_t row_len, size_t at,
-                                           struct tacit_event event, struct tacit_limits limits,
-                                           const uint8_t *area, size_t area_len, uint8_t *room,
-                                           size_t room_len);
-struct tacit_answer __wrap_tacit_row_event(struct tacit_session *row, size_t row_len, size_t at,
-                                           struct tacit_event event, struct tacit_limits limits,
-                                           const uint8_t *area, size_t area_len, uint8_t *room,
-                                           size_t room_len);
-struct tacit_count __real_tacit_row_count(const struct tacit_session *row, size_t row_len,
-                                          uint32_t ta_id);
-struct tacit_count __wrap_tacit_row_count(const struct tacit_session *row, size_t row_len,
-                                          uint32_t ta_id);
-struct tacit_loaded __real_tacit_load(const uint8_t *record, size_t record_len);
-struct tacit_loaded __wrap_tacit_load(const uint8_t *record, size_t record_len);
+DECLARE_CALLS(__real_tacit)
+DECLARE_CALLS(__wrap_tacit)
 
-static unsigned calls;
+static unsigned hellos;
 
-struct tacit_answer __wrap_tacit_hello(uint8_t *record, size_t record_len, uint32_t number)
+SIGNATURE_hello(__wrap_tacit)
 {
-    struct tacit_answer answer = __real_tacit_hello(record, record_len, number);
-    calls++;
+    struct tacit_answer answer = __real_tacit_hello(PASSED_hello);
+    hellos++;
 #if FAULT == 1 /* writes an octet in front of the record */
     if (answer.outcome == 1)
         record[-1] ^= 1;
@@ -38,7 +22,7 @@ struct tacit_answer __wrap_tacit_hello(uint8_t *record, size_t record_len, uint3
     if (answer.outcome == 1)
         record[record_len] ^= 1;
 #elif FAULT == 3 /* answers otherwise the second time */
-    if (calls % 2 == 0)
+    if (hellos % 2 == 0)
         answer.gained ^= 1;
 #elif FAULT == 4 /* ends the program */
     if (answer.outcome == 1)
@@ -51,9 +35,9 @@ struct tacit_answer __wrap_tacit_hello(uint8_t *record, size_t record_len, uint3
     return answer;
 }
 
-struct tacit_reading __wrap_tacit_read(const uint8_t *area, size_t area_len)
+SIGNATURE_read(__wrap_tacit)
 {
-    struct tacit_reading reading = __real_tacit_read(area, area_len);
+    struct tacit_reading reading = __real_tacit_read(PASSED_read);
 #if FAULT == 6 /* writes into an area */
     if (reading.dynamic)
         *(uint8_t *)area ^= 1;
@@ -67,13 +51,9 @@ struct tacit_reading __wrap_tacit_read(const uint8_t *area, size_t area_len)
     return reading;
 }
 
-struct tacit_answer __wrap_tacit_row_event(struct tacit_session *row, size_t row_len, size_t at,
-                                           struct tacit_event event, struct tacit_limits limits,
-                                           const uint8_t *area, size_t area_len, uint8_t *room,
-                                           size_t room_len)
+SIGNATURE_row_event(__wrap_tacit)
 {
-    struct tacit_answer answer = __real_tacit_row_event(row, row_len, at, event, limits, area,
-                                                        area_len, room, room_len);
+    struct tacit_answer answer = __real_tacit_row_event(PASSED_row_event);
 #if FAULT == 9 /* writes the session in front of the row */
     if (answer.outcome == 1)
         row[-1].next ^= 1;
@@ -108,10 +88,9 @@ struct tacit_answer __wrap_tacit_row_event(struct tacit_session *row, size_t row
     return answer;
 }
 
-struct tacit_count __wrap_tacit_row_count(const struct tacit_session *row, size_t row_len,
-                                          uint32_t ta_id)
+SIGNATURE_row_count(__wrap_tacit)
 {
-    struct tacit_count answer = __real_tacit_row_count(row, row_len, ta_id);
+    struct tacit_count answer = __real_tacit_row_count(PASSED_row_count);
 #if FAULT == 18 /* writes into a row that is only counted */
     if (answer.count > 0)
         ((struct tacit_session *)row)->hello ^= 1;
@@ -122,9 +101,9 @@ struct tacit_count __wrap_tacit_row_count(const struct tacit_session *row, size_
     return answer;
 }
 
-struct tacit_loaded __wrap_tacit_load(const uint8_t *record, size_t record_len)
+SIGNATURE_load(__wrap_tacit)
 {
-    struct tacit_loaded answer = __real_tacit_load(record, record_len);
+    struct tacit_loaded answer = __real_tacit_load(PASSED_load);
 #if FAULT == 20 /* writes into a record that is only loaded */
     if (answer.refusal == 0)
         *(uint8_t *)record ^= 1;

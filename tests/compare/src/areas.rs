@@ -67,14 +67,6 @@ pub fn well_formed(numbers: &mut Numbers, hint: u16) -> Vec<u8> {
 
 fn good_tlvs(numbers: &mut Numbers, hint: u16) -> Vec<Tlv> {
     let mut tlvs = Vec::new();
-    if numbers.chance(75) {
-        let value = tac(numbers, hint);
-        tlvs.push(Tlv::new(our_head(numbers, TAC), value));
-    }
-    if numbers.chance(50) {
-        let value = sac(numbers);
-        tlvs.push(Tlv::new(our_head(numbers, SAC), value));
-    }
     if numbers.chance(70) {
         let value = vec![numbers.octet()];
         tlvs.push(Tlv::new(our_head(numbers, DYNAMIC), value));
@@ -82,8 +74,42 @@ fn good_tlvs(numbers: &mut Numbers, hint: u16) -> Vec<Tlv> {
     for _ in 0..numbers.weighted(&[60, 25, 10, 5]) {
         tlvs.push(passed_over(numbers));
     }
+    // One list may be as long as the area lets it; long TACs take time to read.
+    let long = numbers.weighted(&[970, 6, 24]);
+    if long != 1 && numbers.chance(75) {
+        let count = tac_count(numbers);
+        push_tac(numbers, hint, count, &mut tlvs);
+    }
+    if long != 2 && numbers.chance(50) {
+        let count = numbers.weighted(&[0, 40, 20, 10, 10, 8, 6, 4, 2]);
+        push_sac(numbers, count, &mut tlvs);
+    }
+    let left = LARGEST - flatten(&tlvs).len() - 5;
+    match long {
+        1 => {
+            let count = long_count(numbers, left / 4);
+            push_tac(numbers, hint, count, &mut tlvs);
+        }
+        2 => {
+            let count = long_count(numbers, left);
+            push_sac(numbers, count, &mut tlvs);
+        }
+        _ => {}
+    }
     numbers.shuffle(&mut tlvs);
     tlvs
+}
+
+/// How many elements a long list has: about a power of two or a multiple of 16,
+/// where the loops of a compiler begin and end, or as many as there is room for.
+fn long_count(numbers: &mut Numbers, most: usize) -> usize {
+    let about = match numbers.weighted(&[40, 40, 10, 10]) {
+        0 => 1 << numbers.between(3, 12),
+        1 => 16 * numbers.between(1, 16),
+        2 => most,
+        _ => numbers.between(9, most),
+    };
+    (about + numbers.below(3) - 1).min(most)
 }
 
 fn our_head(numbers: &mut Numbers, kind: u16) -> u16 {
@@ -94,7 +120,44 @@ fn our_head(numbers: &mut Numbers, kind: u16) -> u16 {
     }
 }
 
-fn tac(numbers: &mut Numbers, hint: u16) -> Vec<u8> {
+/// Which elements of a list may do something. Of a long one it is mostly a few, and
+/// often at its end: where many do, what one of them does hardly shows.
+fn counting(numbers: &mut Numbers, count: usize) -> Vec<bool> {
+    if count <= 16 || numbers.chance(30) {
+        return vec![true; count];
+    }
+    let mut counting = vec![false; count];
+    for _ in 0..numbers.between(1, 4) {
+        let before_the_last = match numbers.below(3) {
+            0 => 0,
+            1 => numbers.below(count.min(32)),
+            _ => numbers.below(count),
+        };
+        counting[count - 1 - before_the_last] = true;
+    }
+    counting
+}
+
+fn tac_count(numbers: &mut Numbers) -> usize {
+    match numbers.weighted(&[8, 60, 27, 5]) {
+        0 => 0,
+        1 => numbers.between(1, 4),
+        2 => numbers.between(5, 16),
+        _ => numbers.between(17, 60),
+    }
+}
+
+fn push_tac(numbers: &mut Numbers, hint: u16, count: usize, tlvs: &mut Vec<Tlv>) {
+    let value = tac(numbers, hint, count);
+    tlvs.push(Tlv::new(our_head(numbers, TAC), value));
+}
+
+fn push_sac(numbers: &mut Numbers, count: usize, tlvs: &mut Vec<Tlv>) {
+    let value = sac(numbers, count);
+    tlvs.push(Tlv::new(our_head(numbers, SAC), value));
+}
+
+fn tac(numbers: &mut Numbers, hint: u16, count: usize) -> Vec<u8> {
     let mut value = vec![0];
     if numbers.chance(85) {
         value[0] |= 0x80;
@@ -102,19 +165,15 @@ fn tac(numbers: &mut Numbers, hint: u16) -> Vec<u8> {
     if numbers.flag() {
         value[0] |= numbers.octet() & 0x7F;
     }
-    let count = match numbers.weighted(&[8, 60, 26, 5, 1]) {
-        0 => 0,
-        1 => numbers.between(1, 4),
-        2 => numbers.between(5, 16),
-        3 => numbers.between(17, 60),
-        _ => numbers.between(61, 1000),
-    };
     let mut ids: Vec<u16> = Vec::with_capacity(count);
-    for _ in 0..count {
-        let id = ta_id(numbers, hint, &ids);
+    for counts in counting(numbers, count) {
+        let id = match counts {
+            true => ta_id(numbers, hint, &ids),
+            false => numbers.between(14, 0xFFFF) as u16,
+        };
         ids.push(id);
     }
-    if numbers.chance(5) {
+    if count < 64 && numbers.chance(5) {
         ids = (1..=13).collect();
         numbers.shuffle(&mut ids);
     }
@@ -165,14 +224,13 @@ fn ta_id(numbers: &mut Numbers, hint: u16, earlier: &[u16]) -> u16 {
     }
 }
 
-fn sac(numbers: &mut Numbers) -> Vec<u8> {
-    let count = numbers.weighted(&[0, 40, 20, 10, 10, 8, 6, 4, 2]);
+fn sac(numbers: &mut Numbers, count: usize) -> Vec<u8> {
     let mut value = vec![numbers.octet()];
-    for _ in 0..count {
-        let app = if numbers.chance(75) {
-            numbers.between(1, 4)
-        } else {
-            numbers.below(8)
+    for counts in counting(numbers, count) {
+        let app = match counts {
+            true if numbers.chance(75) => numbers.between(1, 4),
+            true => numbers.below(8),
+            false => numbers.one_of(&[0, 5, 6, 7]),
         };
         let mut element = (app << 4) as u8;
         if numbers.chance(55) {

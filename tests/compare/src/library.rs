@@ -2,7 +2,7 @@
 //! in batches; the program checks for itself that nothing is written outside the
 //! buffers that it lends.
 
-use crate::call::{Call, Said, Seen};
+use crate::call::{Call, Left, Said, Seen};
 use crate::wire;
 use std::io::{self, Read, Write};
 use std::path::PathBuf;
@@ -60,9 +60,7 @@ impl Library {
             Ok(mut seen) => seen.remove(0),
             Err(lost) => Seen {
                 said: Said::Lost(lost),
-                record: call.record.clone(),
-                row: call.row.clone(),
-                room: call.room().to_vec(),
+                left: Left::as_found(call),
                 faults: 0,
             },
         }

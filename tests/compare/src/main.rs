@@ -20,6 +20,7 @@ mod scenes;
 mod show;
 mod shrink;
 mod tally;
+mod value;
 mod wire;
 
 use call::{Call, Seen};

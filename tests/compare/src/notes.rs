@@ -1,6 +1,6 @@
 //! What is worth noting of a call beside its refusal and its outcome.
 
-use crate::call::{Ask, Call, RowEvent, Said, Seen};
+use crate::call::{Call, Said, Seen, Which};
 use crate::tally::Place::{self, Outside, Ready, Unsound};
 use crate::{records, rows};
 use second::{Answer, Fields};
@@ -35,13 +35,47 @@ fn such(notes: &[(&'static str, bool)]) -> Vec<&'static str> {
     so.map(|(note, _)| *note).collect()
 }
 
+/// Octets from which on a list is long.
+const LONG: u16 = 2_000;
+
+/// Long lists that an event has read.
+pub fn of_lists(call: &Call, seen: &Seen) -> Vec<&'static str> {
+    let [tac, sac] = match (call.which, call.row_event()) {
+        (Which::Initialization, _) => [OF_LISTS[0], OF_LISTS[1]],
+        (Which::Capability, _) => [OF_LISTS[2], OF_LISTS[3]],
+        (_, Some(0)) => [OF_LISTS[4], OF_LISTS[5]],
+        (_, Some(1)) => [OF_LISTS[6], OF_LISTS[7]],
+        _ => return Vec::new(),
+    };
+    if call.area.len() < LONG.into() || seen.said.refusal() != 0 {
+        return Vec::new();
+    }
+    let reading = second::read(&call.area);
+    such(&[
+        (tac, reading.tac.length >= LONG),
+        (sac, reading.sac.length >= LONG),
+    ])
+}
+
+/// All that lists can have to be noted.
+pub const OF_LISTS: [&str; 8] = [
+    "TAC, at Initialization",
+    "SAC, at Initialization",
+    "TAC, at Capability",
+    "SAC, at Capability",
+    "TAC, at Initialization in a row",
+    "SAC, at Initialization in a row",
+    "TAC, at Capability in a row",
+    "SAC, at Capability in a row",
+];
+
 /// What stands out of a row and of the limits that it is handed with.
 pub fn of_row(call: &Call, before: Place, seen: &Seen) -> Vec<&'static str> {
-    let Ask::RowEvent(event) = &call.ask else {
+    if call.row_event().is_none() {
         return Vec::new();
-    };
+    }
     let row = &call.row;
-    let (length, at) = (row.len() as u64, event.at);
+    let (length, at) = (row.len() as u64, call.at);
     let sound = |session: &Fields| Place::of_session(session) != Unsound;
     let unsound = row.iter().filter(|session| !sound(session)).count();
     let here = row.get(at as usize).filter(|_| at < length);
@@ -72,27 +106,28 @@ pub fn of_row(call: &Call, before: Place, seen: &Seen) -> Vec<&'static str> {
             "10, by the last session",
             before == Unsound && unsound == 1 && !row.last().is_some_and(sound),
         ),
-        ("on by a number over 1", event.event.on > 1),
+        ("on by a number over 1", call.event.on > 1),
     ]);
     if let (Ready, Said::Answer(answer)) = (before, &seen.said) {
-        notes.extend(of_limits(event, row, answer, &seen.row[at as usize]));
+        notes.extend(of_limits(call, answer, &seen.left.row[at as usize]));
     }
     notes
 }
 
 /// How near to their limits an Initialization finds the common applications.
-fn of_limits(event: &RowEvent, row: &[Fields], answer: &Answer, is: &Fields) -> Vec<&'static str> {
-    if event.event.which != 0 || answer.refusal != 0 {
+fn of_limits(call: &Call, answer: &Answer, is: &Fields) -> Vec<&'static str> {
+    if call.row_event() != Some(0) || answer.refusal != 0 {
         return Vec::new();
     }
-    let all_0 = event.limits.of == [0; 13];
-    let counts = rows::counts(row);
+    let limits = &call.limits.of;
+    let all_0 = *limits == [0; 13];
+    let counts = rows::counts(&call.row);
     // What a session that opened has in common; places left are negative where
     // a count has passed its limit.
     let common = is.enabled & is.listed;
     let left: Vec<(u8, i32)> = (0..13)
         .filter(|bit| common >> bit & 1 == 1)
-        .map(|bit| (event.limits.of[bit], counts[bit]))
+        .map(|bit| (limits[bit], counts[bit]))
         .map(|(limit, count)| (limit, i32::from(limit.min(64)) - i32::from(count)))
         .collect();
     let most = left.iter().map(|(_, left)| *left).max();
@@ -100,10 +135,7 @@ fn of_limits(event: &RowEvent, row: &[Fields], answer: &Answer, is: &Fields) -> 
     let outcome = answer.outcome;
     such(&[
         ("at limit, all limits 0", outcome == 3 && all_0),
-        (
-            "at limit, none 0",
-            outcome == 3 && !event.limits.of.contains(&0),
-        ),
+        ("at limit, none 0", outcome == 3 && !limits.contains(&0)),
         (
             "at limit, 63 others open",
             outcome == 3 && counts.contains(&63),

@@ -1,6 +1,6 @@
 //! What the rules make reachable, for the closing table.
 
-use crate::call::ROW_EVENTS;
+use crate::call::{Which, ROW_EVENTS};
 use crate::notes;
 use crate::tally::Place::{self, Gone, Held, Open, Outside, Ready, Unsound};
 use crate::tally::What::{self, Note, Outcome, Refusal};
@@ -58,6 +58,9 @@ pub fn reachable() -> BTreeSet<Item> {
     add("sound", Unsound, Note("not sound"));
     kinds_and_retry(&mut add, "permitted_kinds", "retry_interval");
     rows_and_limits(&mut add);
+    for note in notes::OF_LISTS {
+        add("long list", Place::None, Note(note));
+    }
     items
 }
 
@@ -151,7 +154,7 @@ fn events(add: &mut Add, names: [&'static str; 6]) {
 
 /// What rows, limits and single sessions come to.
 fn rows_and_limits(add: &mut Add) {
-    for names in [ROW_EVENTS, BY_NUMBER] {
+    for names in [ROW_EVENTS.map(Which::name), BY_NUMBER] {
         events(add, names);
         for name in names {
             add(name, Outside, Refusal(11));

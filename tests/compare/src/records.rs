@@ -121,11 +121,9 @@ pub fn sound_session(numbers: &mut Numbers) -> Fields {
         state,
         flags,
         enabled: applications(numbers),
-        listed: 0,
         protects: kinds(numbers),
-        disabled: 0,
-        hello: 0,
         next: word(numbers),
+        ..Fields::default()
     };
     if state == OPEN {
         if numbers.chance(70) {
@@ -183,11 +181,9 @@ fn by_role(numbers: &mut Numbers) -> Vec<u8> {
         state: numbers.one_of(&[HELD, GONE]),
         flags: numbers.octet() & (INITIATING | ACTIVE | USES_TAC | DROPS),
         enabled: applications(numbers),
-        listed: 0,
         protects: kinds(numbers),
-        disabled: 0,
-        hello: 0,
         next: word(numbers),
+        ..Fields::default()
     };
     if numbers.chance(30) {
         fields.flags |= HELLO;

@@ -1,13 +1,10 @@
 //! Calls on rows: long walks of one row through the events of its sessions, and
 //! single calls on rows of any sort.
 
-use crate::call::{Ask, Call, RowEvent, Said, Seen};
+use crate::call::{Call, Said, Seen, Which, ROW_EVENTS};
 use crate::numbers::Numbers;
 use crate::{areas, records, rows, scenes};
 use second::{no_limits, Event, Fields, Limits};
-
-/// How many events there are.
-const EVENTS: usize = 6;
 
 const INITIALIZATION: usize = 0;
 const CAPABILITY: usize = 1;
@@ -47,18 +44,18 @@ impl RowWalk {
     pub fn next(&self, numbers: &mut Numbers) -> Call {
         let session = numbers.one_of(&self.row);
         match numbers.weighted(&[80, 7, 7, 2, 2, 1, 1]) {
-            0 => Call::on_row(self.row.clone(), Ask::RowEvent(self.event(numbers))),
-            1 => Call::alone(set_limit(numbers, &self.row, self.few, self.limits)),
-            2 => Call::on_row(self.row.clone(), row_count(numbers, self.few)),
-            3 => Call::on_record(records::stored(&session), Ask::Load),
-            4 => Call::on_record(numbers.octets(records::LENGTH), Ask::Store { session }),
-            5 => Call::alone(Ask::SessionKinds { session }),
-            _ => Call::alone(Ask::SessionRetry { session }),
+            0 => self.event(numbers),
+            1 => set_limit(numbers, &self.row, self.few, self.limits),
+            2 => row_count(numbers, self.row.clone(), self.few),
+            3 => Call::on_record(Which::Load, records::stored(&session)),
+            4 => store(numbers, session, records::LENGTH),
+            5 => of_session(Which::SessionKinds, session),
+            _ => of_session(Which::SessionRetry, session),
         }
     }
 
     /// An event of one session, mostly one that its state is for.
-    fn event(&self, numbers: &mut Numbers) -> RowEvent {
+    fn event(&self, numbers: &mut Numbers) -> Call {
         let at = self.at(numbers);
         let session = self.row.get(at as usize).copied().unwrap_or_default();
         // By number; the last is none of the six. Held and Gone wait for a
@@ -69,7 +66,12 @@ impl RowWalk {
             _ => [3, 3, 25, 3, 45, 2, 1],
         };
         let which = numbers.weighted(&weights);
-        event(numbers, which, at, &session, self.limits, self.few)
+        let call = Call {
+            at,
+            limits: self.limits,
+            ..Call::on_row(Which::RowEvent, self.row.clone())
+        };
+        event(numbers, call, which, &session, self.few)
     }
 
     /// The number of a session, more often of one that waits to be opened.
@@ -90,10 +92,10 @@ impl RowWalk {
 
     /// Goes on from what was seen.
     pub fn saw(&mut self, call: &Call, seen: &Seen) {
-        if let Ask::RowEvent(_) = call.ask {
-            self.row.clone_from(&seen.row);
+        if call.row_event().is_some() {
+            self.row.clone_from(&seen.left.row);
         }
-        if let Said::Limited(answer) = seen.said {
+        if let Said::Limited(answer) = &seen.said {
             self.limits = answer.limits;
         }
         self.left -= 1;
@@ -109,7 +111,7 @@ pub fn single(numbers: &mut Numbers) -> Call {
     let few = rows::few(numbers);
     let mut row = rows::any(numbers, few);
     if numbers.chance(15) {
-        return Call::on_row(row, row_count(numbers, few));
+        return row_count(numbers, row, few);
     }
     let which = numbers.weighted(&[44, 14, 16, 6, 9, 6, 5]);
     let at = if row.is_empty() || numbers.chance(12) {
@@ -125,9 +127,12 @@ pub fn single(numbers: &mut Numbers) -> Call {
         }
         session = *place;
     }
-    let limits = rows::limits(numbers, &row, few);
-    let event = event(numbers, which, at, &session, limits, few);
-    Call::on_row(row, Ask::RowEvent(event))
+    let call = Call {
+        at,
+        limits: rows::limits(numbers, &row, few),
+        ..Call::on_row(Which::RowEvent, row)
+    };
+    event(numbers, call, which, &session, few)
 }
 
 /// Mostly a state that the event is for.
@@ -139,55 +144,80 @@ fn state_for(numbers: &mut Numbers, which: usize) -> u8 {
     }
 }
 
-/// An event of the session with this number, by its own number or by its name.
+/// The call with an event of its session, by the event's number or by its name.
 /// By number it is given what it does not need, too, which should make no
 /// difference.
-fn event(
-    numbers: &mut Numbers,
-    which: usize,
-    at: u64,
-    session: &Fields,
-    limits: Limits,
-    few: u16,
-) -> RowEvent {
+fn event(numbers: &mut Numbers, call: Call, which: usize, session: &Fields, few: u16) -> Call {
     let hint = match numbers.below(4) {
         0 => records::hint(session),
         // What the session uses: without it there may be a mismatch.
         1 => session.enabled & session.listed & 0x1FFF,
         _ => few,
     };
-    let by_name = which < EVENTS && numbers.flag();
     let ta_id = scenes::ta_id_to_change(numbers, hint);
     let on = scenes::on_or_off(numbers, session, ta_id);
-    RowEvent {
-        by_name,
-        at,
+    let number = scenes::hello_number(numbers, session.hello);
+    let area = match which {
+        INITIALIZATION | CAPABILITY => scenes::mostly_good(numbers, hint),
+        _ if numbers.chance(30) => areas::any(numbers, hint),
+        _ => Vec::new(),
+    };
+    let room = match which {
+        LOCAL_CHANGE => scenes::room(numbers),
+        _ if numbers.chance(30) => scenes::room(numbers),
+        _ => Vec::new(),
+    };
+    let by_number = Call {
         event: Event {
             which: event_number(numbers, which),
             ta_id,
             on: on_number(numbers, on),
-            number: scenes::hello_number(numbers, session.hello),
+            number,
         },
-        limits,
-        area: match which {
-            INITIALIZATION | CAPABILITY => scenes::mostly_good(numbers, hint),
-            _ if !by_name && numbers.chance(30) => areas::any(numbers, hint),
-            _ => Vec::new(),
-        },
-        room: match which {
-            LOCAL_CHANGE => scenes::room(numbers),
-            _ if !by_name && numbers.chance(30) => scenes::room(numbers),
-            _ => Vec::new(),
-        },
+        area,
+        room,
+        ..call
+    };
+    match ROW_EVENTS.get(which) {
+        Some(&named) if numbers.flag() => by_name(by_number, named, on),
+        _ => by_number,
     }
+}
+
+/// The same through the call that has the event's name, which takes only what the
+/// event needs.
+fn by_name(call: Call, named: Which, on: bool) -> Call {
+    let mut other = Call {
+        at: call.at,
+        ..Call::on_row(named, call.row)
+    };
+    if other.takes("limits") {
+        other.limits = call.limits;
+    }
+    if other.takes("area") {
+        other.area = call.area;
+    }
+    if other.takes("ta_id") {
+        other.ta_id = call.event.ta_id;
+    }
+    if other.takes("on") {
+        other.on = on;
+    }
+    if other.takes("number") {
+        other.number = call.event.number;
+    }
+    if other.takes("room") {
+        other.room = call.room;
+    }
+    other
 }
 
 /// The number of an event, or one that is no event's.
 fn event_number(numbers: &mut Numbers, which: usize) -> u32 {
-    if which < EVENTS {
+    if which < ROW_EVENTS.len() {
         return which as u32;
     }
-    let known = numbers.below(EVENTS) as u32;
+    let known = numbers.below(ROW_EVENTS.len()) as u32;
     let choices = [
         6,
         6,
@@ -211,29 +241,47 @@ fn on_number(numbers: &mut Numbers, on: bool) -> u32 {
     }
 }
 
-fn row_count(numbers: &mut Numbers, few: u16) -> Ask {
-    Ask::RowCount {
+fn row_count(numbers: &mut Numbers, row: Vec<Fields>, few: u16) -> Call {
+    Call {
         ta_id: scenes::ta_id_to_change(numbers, few),
+        ..Call::on_row(Which::RowCount, row)
     }
 }
 
-fn set_limit(numbers: &mut Numbers, row: &[Fields], few: u16, limits: Limits) -> Ask {
+fn set_limit(numbers: &mut Numbers, row: &[Fields], few: u16, limits: Limits) -> Call {
     let ta_id = scenes::ta_id_to_change(numbers, few);
     let count = match ta_id {
         1..=13 => rows::counts(row)[ta_id as usize - 1],
         _ => 0,
     };
-    Ask::SetLimit {
+    Call {
         limits,
         ta_id,
         limit: rows::limit_to_set(numbers, count),
+        ..Call::new(Which::SetLimit)
+    }
+}
+
+/// A session stored in a record of this length.
+fn store(numbers: &mut Numbers, session: Fields, length: usize) -> Call {
+    Call {
+        session,
+        ..Call::on_record(Which::Store, numbers.octets(length))
+    }
+}
+
+/// A question about a session by itself.
+fn of_session(which: Which, session: Fields) -> Call {
+    Call {
+        session,
+        ..Call::new(which)
     }
 }
 
 /// A call that serves rows and is on none: sessions to and from records, limits.
 pub fn beside_a_row(numbers: &mut Numbers) -> Call {
     match numbers.weighted(&[30, 30, 5, 20, 8, 7]) {
-        0 => Call::on_record(records::any(numbers), Ask::Load),
+        0 => Call::on_record(Which::Load, records::any(numbers)),
         1 => {
             let length = if numbers.chance(80) {
                 records::LENGTH
@@ -241,20 +289,16 @@ pub fn beside_a_row(numbers: &mut Numbers) -> Call {
                 records::any_length(numbers)
             };
             let session = any_session(numbers);
-            Call::on_record(numbers.octets(length), Ask::Store { session })
+            store(numbers, session, length)
         }
-        2 => Call::alone(Ask::NoLimits),
+        2 => Call::new(Which::NoLimits),
         3 => {
             let few = rows::few(numbers);
             let limits = rows::limits(numbers, &[], few);
-            Call::alone(set_limit(numbers, &[], few, limits))
+            set_limit(numbers, &[], few, limits)
         }
-        4 => Call::alone(Ask::SessionKinds {
-            session: any_session(numbers),
-        }),
-        _ => Call::alone(Ask::SessionRetry {
-            session: any_session(numbers),
-        }),
+        4 => of_session(Which::SessionKinds, any_session(numbers)),
+        _ => of_session(Which::SessionRetry, any_session(numbers)),
     }
 }
 

@@ -1,7 +1,7 @@
 //! Which call comes next: long walks of one session or one row through their
 //! events, and single calls on records and rows of any sort.
 
-use crate::call::{Ask, Call, Said, Seen};
+use crate::call::{Call, Said, Seen, Which};
 use crate::numbers::Numbers;
 use crate::row_scenes::{self, RowWalk};
 use crate::{areas, records};
@@ -31,8 +31,7 @@ impl Scenes {
     pub fn next(&mut self) -> Call {
         let numbers = &mut self.numbers;
         if let Some(walk) = &self.walk {
-            let ask = step(numbers, &records::fields(&walk.record));
-            return Call::on_record(walk.record.clone(), ask);
+            return step(numbers, walk.record.clone());
         }
         if self.row_walk.is_none() && numbers.chance(1) {
             self.row_walk = Some(RowWalk::new(numbers));
@@ -44,9 +43,10 @@ impl Scenes {
             0 => creation(numbers),
             1 => {
                 let hint = records::applications(numbers);
-                Call::alone(Ask::Read {
+                Call {
                     area: areas::any(numbers, hint),
-                })
+                    ..Call::new(Which::Read)
+                }
             }
             2 => single(numbers),
             3 => row_scenes::single(numbers),
@@ -57,7 +57,7 @@ impl Scenes {
     /// Goes on from what was seen.
     pub fn saw(&mut self, call: &Call, seen: &Seen) {
         if let Some(walk) = &mut self.walk {
-            walk.record.clone_from(&seen.record);
+            walk.record.clone_from(&seen.left.record);
             walk.left -= 1;
             if walk.left == 0 {
                 self.walk = None;
@@ -67,9 +67,9 @@ impl Scenes {
             if walk.is_over() {
                 self.row_walk = None;
             }
-        } else if matches!(call.ask, Ask::Create { .. }) && seen.said == Said::Refusal(0) {
+        } else if call.which == Which::Create && seen.said == Said::Refusal(0) {
             self.walk = Some(Walk {
-                record: seen.record.clone(),
+                record: seen.left.record.clone(),
                 left: self.numbers.one_of(&[1, 5, 20, 60, 200]),
             });
         }
@@ -82,27 +82,25 @@ fn creation(numbers: &mut Numbers) -> Call {
     } else {
         records::any_length(numbers)
     };
-    let mut protected = u32::from(records::kinds(numbers));
+    let mut protected_kinds = u32::from(records::kinds(numbers));
     let mut enabled = u32::from(records::applications(numbers));
     if numbers.chance(12) {
-        protected = beyond(numbers, protected, 10);
+        protected_kinds = beyond(numbers, protected_kinds, 10);
     }
     if numbers.chance(12) {
         enabled = beyond(numbers, enabled, 13);
     }
     let record = numbers.octets(length);
-    let ask = Ask::Create {
-        roles: [
-            numbers.flag(),
-            numbers.flag(),
-            numbers.chance(75),
-            numbers.flag(),
-        ],
-        protected,
+    Call {
+        initiating: numbers.flag(),
+        active: numbers.flag(),
+        uses_tac: numbers.chance(75),
+        drops: numbers.flag(),
+        protected_kinds,
         enabled,
-        first: records::word(numbers),
-    };
-    Call::on_record(record, ask)
+        first_number: records::word(numbers),
+        ..Call::on_record(Which::Create, record)
+    }
 }
 
 /// A set with something beyond its width.
@@ -115,57 +113,66 @@ fn beyond(numbers: &mut Numbers, set: u32, width: usize) -> u32 {
     }
 }
 
+/// The calls on a record, with how often each comes: alone, and as a step of a
+/// session in Ready, Open, Held and Gone.
+const ON_RECORD: &[(Which, [usize; 5])] = &[
+    (Which::Initialization, [18, 50, 3, 4, 4]),
+    (Which::Capability, [20, 3, 40, 4, 4]),
+    (Which::LocalChange, [20, 15, 30, 25, 30]),
+    (Which::Mismatch, [7, 4, 2, 4, 4]),
+    (Which::Hello, [12, 10, 8, 40, 35]),
+    (Which::Closed, [5, 2, 3, 3, 3]),
+    (Which::Permitted, [6, 4, 4, 4, 4]),
+    (Which::PermittedKinds, [4, 4, 4, 4, 4]),
+    (Which::RetryInterval, [3, 4, 3, 8, 8]),
+    (Which::Sound, [5, 4, 3, 4, 4]),
+];
+
 /// A call on a record of any sort.
 fn single(numbers: &mut Numbers) -> Call {
     let record = records::any(numbers);
-    let session = records::fields(&record);
-    let hint = records::hint(&session);
-    let ask = match numbers.weighted(&[18, 20, 20, 7, 12, 5, 6, 4, 3, 5]) {
-        0 => Ask::Initialization {
-            area: areas::any(numbers, hint),
-        },
-        1 => Ask::Capability {
-            area: areas::any(numbers, hint),
-        },
-        2 => local_change(numbers, &session),
-        3 => Ask::Mismatch,
-        4 => hello(numbers, &session),
-        5 => Ask::Closed,
-        6 => permitted(numbers),
-        7 => Ask::PermittedKinds,
-        8 => Ask::RetryInterval,
-        _ => Ask::Sound,
-    };
-    Call::on_record(record, ask)
+    on_record(numbers, 0, record, areas::any)
 }
 
 /// The next step of a walk, mostly one that its state is for.
-fn step(numbers: &mut Numbers, session: &Fields) -> Ask {
-    let hint = records::hint(session);
-    // Initialization, Capability, local change, mismatch, Hello, closed,
-    // permitted, permitted kinds, retry interval, sound.
-    let weights = match session.state {
-        records::READY => [50, 3, 15, 4, 10, 2, 4, 4, 4, 4],
-        records::OPEN => [3, 40, 30, 2, 8, 3, 4, 4, 3, 3],
-        records::HELD => [4, 4, 25, 4, 40, 3, 4, 4, 8, 4],
-        _ => [4, 4, 30, 4, 35, 3, 4, 4, 8, 4],
-    };
-    match numbers.weighted(&weights) {
-        0 => Ask::Initialization {
-            area: mostly_good(numbers, hint),
-        },
-        1 => Ask::Capability {
-            area: mostly_good(numbers, hint),
-        },
-        2 => local_change(numbers, session),
-        3 => Ask::Mismatch,
-        4 => hello(numbers, session),
-        5 => Ask::Closed,
-        6 => permitted(numbers),
-        7 => Ask::PermittedKinds,
-        8 => Ask::RetryInterval,
-        _ => Ask::Sound,
+fn step(numbers: &mut Numbers, record: Vec<u8>) -> Call {
+    let state = records::fields(&record).state;
+    let column = 1 + usize::from(state.min(records::GONE));
+    on_record(numbers, column, record, mostly_good)
+}
+
+/// A call on a record by this column of the weights, with what else it takes.
+fn on_record(
+    numbers: &mut Numbers,
+    column: usize,
+    record: Vec<u8>,
+    area: fn(&mut Numbers, hint: u16) -> Vec<u8>,
+) -> Call {
+    let weights = ON_RECORD.iter().map(|(_, weights)| weights[column]);
+    let weights: Vec<usize> = weights.collect();
+    let (which, _) = ON_RECORD[numbers.weighted(&weights)];
+    let session = records::fields(&record);
+    let hint = records::hint(&session);
+    let mut call = Call::on_record(which, record);
+    if call.takes("area") {
+        call.area = area(numbers, hint);
     }
+    if call.takes("ta_id") {
+        call.ta_id = ta_id_to_change(numbers, hint);
+    }
+    if call.takes("room") {
+        call.room = room(numbers);
+    }
+    if call.takes("on") {
+        call.on = on_or_off(numbers, &session, call.ta_id);
+    }
+    if call.takes("number") {
+        call.number = hello_number(numbers, session.hello);
+    }
+    if call.takes("kind") {
+        call.kind = kind(numbers);
+    }
+    call
 }
 
 pub fn mostly_good(numbers: &mut Numbers, hint: u16) -> Vec<u8> {
@@ -174,13 +181,6 @@ pub fn mostly_good(numbers: &mut Numbers, hint: u16) -> Vec<u8> {
     } else {
         areas::damaged(numbers, hint)
     }
-}
-
-fn local_change(numbers: &mut Numbers, session: &Fields) -> Ask {
-    let ta_id = ta_id_to_change(numbers, records::hint(session));
-    let room = room(numbers);
-    let on = on_or_off(numbers, session, ta_id);
-    Ask::LocalChange { ta_id, on, room }
 }
 
 /// A TA-Id, often one that matters to the session, now and then none at all.
@@ -216,14 +216,13 @@ pub fn room(numbers: &mut Numbers) -> Vec<u8> {
     numbers.octets(length)
 }
 
-fn permitted(numbers: &mut Numbers) -> Ask {
+fn kind(numbers: &mut Numbers) -> u32 {
     let kind = numbers.below(10) as u32;
-    let kind = if numbers.chance(80) {
+    if numbers.chance(80) {
         kind
     } else {
         out_of_range(numbers, kind, 10)
-    };
-    Ask::Permitted { kind }
+    }
 }
 
 /// A number that must not be taken for `inside`, or 0.
@@ -244,12 +243,6 @@ pub fn out_of_range(numbers: &mut Numbers, inside: u32, first: u32) -> u32 {
         random,
     ];
     numbers.one_of(&choices)
-}
-
-fn hello(numbers: &mut Numbers, session: &Fields) -> Ask {
-    Ask::Hello {
-        number: hello_number(numbers, session.hello),
-    }
 }
 
 /// A Hello number about the recorded one, or any.

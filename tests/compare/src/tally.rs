@@ -1,6 +1,6 @@
 //! What was met, how often, and what should have been.
 
-use crate::call::{Ask, Call, Said, Seen};
+use crate::call::{Call, Left, Said, Seen, Which};
 use crate::reachable::{reachable, BY_NUMBER, NO_EVENT};
 use crate::{notes, records, rows};
 use second::Fields;
@@ -28,20 +28,24 @@ pub const STATES: [Place; 4] = [Ready, Open, Held, Gone];
 
 impl Place {
     fn before(call: &Call) -> Place {
-        match &call.ask {
-            Ask::Read { .. } | Ask::Create { .. } | Ask::NoLimits | Ask::SetLimit { .. } => {
-                Place::None
-            }
-            Ask::Store { session }
-            | Ask::SessionKinds { session }
-            | Ask::SessionRetry { session } => Place::of_session(session),
-            Ask::RowCount { .. } => match Place::in_row(&call.row, 0) {
-                Place::Outside => Outside,
-                Place::Unsound => Unsound,
+        if call.takes("at") {
+            return Place::in_row(&call.row, call.at);
+        }
+        if call.takes("row") {
+            return match Place::in_row(&call.row, 0) {
+                Outside => Outside,
+                Unsound => Unsound,
                 _ => Place::None,
-            },
-            Ask::RowEvent(event) => Place::in_row(&call.row, event.at),
-            _ => Place::of(&call.record),
+            };
+        }
+        if call.takes("session") {
+            return Place::of_session(&call.session);
+        }
+        match call.which {
+            // What it is given is room for one.
+            Which::Create => Place::None,
+            _ if call.takes("record") => Place::of(&call.record),
+            _ => Place::None,
         }
     }
 
@@ -111,23 +115,21 @@ pub struct Tally {
 
 /// The name of a call in the table. Events by number have one each.
 fn name(call: &Call) -> &'static str {
-    match &call.ask {
-        Ask::RowEvent(event) if !event.by_name => BY_NUMBER
-            .get(event.event.which as usize)
+    match call.which {
+        Which::RowEvent => BY_NUMBER
+            .get(call.event.which as usize)
             .unwrap_or(&NO_EVENT),
-        _ => call.name(),
+        which => which.name(),
     }
 }
 
 /// The session of an event before and after; none if it should have been refused.
-fn sessions(call: &Call, seen: &Seen) -> (Fields, Fields) {
-    match &call.ask {
-        Ask::RowEvent(event) => {
-            let session = |row: &[Fields]| row.get(event.at as usize).copied().unwrap_or_default();
-            (session(&call.row), session(&seen.row))
-        }
-        _ => (records::fields(&call.record), records::fields(&seen.record)),
+fn sessions(call: &Call, left: &Left) -> (Fields, Fields) {
+    if call.takes("at") {
+        let session = |row: &[Fields]| row.get(call.at as usize).copied().unwrap_or_default();
+        return (session(&call.row), session(&left.row));
     }
+    (records::fields(&call.record), records::fields(&left.record))
 }
 
 impl Tally {
@@ -135,13 +137,13 @@ impl Tally {
         let name = name(call);
         let before = Place::before(call);
         for note in notes::of_row(call, before, seen) {
-            *self
-                .met
-                .entry(("row", Place::None, What::Note(note)))
-                .or_insert(0) += 1;
+            self.met(("row", Place::None, What::Note(note)));
         }
-        let mut met = |what| *self.met.entry((name, before, what)).or_insert(0) += 1;
-        match seen.said {
+        for note in notes::of_lists(call, seen) {
+            self.met(("long list", Place::None, What::Note(note)));
+        }
+        let mut met = |what| self.met((name, before, what));
+        match &seen.said {
             Said::Reading(reading) => {
                 met(What::Refusal(reading.refusal));
                 if reading.tac.length > 0 {
@@ -154,47 +156,45 @@ impl Tally {
                     met(What::Note("Dynamic read"));
                 }
             }
-            Said::Refusal(refusal) => met(What::Refusal(refusal)),
-            Said::Answer(answer) if answer.refusal != 0 => met(What::Refusal(answer.refusal)),
-            Said::Answer(answer) => {
-                let (was, is) = sessions(call, seen);
+            Said::Answer(answer) if answer.refusal == 0 => {
+                let (was, is) = sessions(call, &seen.left);
                 met(What::Outcome(answer.outcome, Place::of_session(&is)));
-                for note in notes::of_answer(&answer, &was, &is) {
+                for note in notes::of_answer(answer, &was, &is) {
                     met(What::Note(note));
                 }
             }
-            Said::Permission(answer) if answer.refusal != 0 => met(What::Refusal(answer.refusal)),
-            Said::Permission(answer) => met(What::Note(if answer.permitted != 0 {
-                "permitted"
-            } else {
-                "not permitted"
-            })),
-            Said::Kinds(answer) if answer.refusal != 0 => met(What::Refusal(answer.refusal)),
-            Said::Kinds(answer) => met(What::Note(match answer.kinds {
+            Said::Permission(answer) if answer.refusal == 0 => {
+                met(What::Note(match answer.permitted {
+                    0 => "not permitted",
+                    _ => "permitted",
+                }))
+            }
+            Said::Kinds(answer) if answer.refusal == 0 => met(What::Note(match answer.kinds {
                 0 => "no kinds",
                 0x3FF => "all kinds",
                 _ => "some kinds",
             })),
-            Said::Retry(answer) if answer.refusal != 0 => met(What::Refusal(answer.refusal)),
-            Said::Retry(answer) => met(What::Note(match answer.interval {
+            Said::Retry(answer) if answer.refusal == 0 => met(What::Note(match answer.interval {
                 0 => "interval 0",
                 65_535 => "interval 65535",
                 _ => "some other interval",
             })),
-            Said::Sound(sound) => met(What::Note(if sound != 0 { "sound" } else { "not sound" })),
-            Said::Loaded(answer) => met(What::Refusal(answer.refusal)),
-            Said::Limits(_) => met(What::Note("limits")),
-            Said::Limited(answer) => met(What::Refusal(answer.refusal)),
-            Said::Count(answer) if answer.refusal != 0 => met(What::Refusal(answer.refusal)),
-            Said::Count(answer) => met(What::Note(match answer.count {
+            Said::Count(answer) if answer.refusal == 0 => met(What::Note(match answer.count {
                 0 => "count 0",
                 1..=62 => "count 1 to 62",
                 63 => "count 63",
                 64 => "count 64",
                 _ => "count over 64",
             })),
+            Said::Sound(sound) => met(What::Note(if *sound { "sound" } else { "not sound" })),
+            Said::Limits(_) => met(What::Note("limits")),
             Said::Panicked | Said::Lost(_) => met(What::Note("broke off")),
+            said => met(What::Refusal(said.refusal())),
         }
+    }
+
+    fn met(&mut self, item: Item) {
+        *self.met.entry(item).or_insert(0) += 1;
     }
 
     /// Prints the counts, and answers how many items are missing or should

@@ -6,6 +6,7 @@ use crate::{Kinds, Refusal, Retry};
 
 /// One session of a row.
 #[derive(Clone, Copy, Debug, Default, PartialEq, Eq)]
+#[repr(C)]
 pub struct Fields {
     pub state: u8,
     pub flags: u8,
@@ -19,6 +20,7 @@ pub struct Fields {
 
 /// A session read from a record.
 #[derive(Clone, Copy, Debug, PartialEq, Eq)]
+#[repr(C)]
 pub struct Loaded {
     pub refusal: u8,
     pub session: Fields,

@@ -4,7 +4,8 @@
 //!
 //! Every public function works on plain octets and numbers and can be called
 //! with any of them. A session travels as its 22-octet record, or in a row as
-//! its [`Fields`]; inside, it is the decoded [`session::Session`].
+//! its [`Fields`]; inside, it is the decoded [`session::Session`]. What is handed
+//! in and out is laid out as in C, for `tests/second_c`.
 //!
 //! | file         | idea                                                   |
 //! |--------------|--------------------------------------------------------|
@@ -55,6 +56,7 @@ pub const LARGEST_AREA: usize = area::LARGEST;
 
 /// Where a value lies in the area that was read. Absent means 0, 0.
 #[derive(Clone, Copy, Debug, Default, PartialEq, Eq)]
+#[repr(C)]
 pub struct Part {
     pub start: u16,
     pub length: u16,
@@ -62,6 +64,7 @@ pub struct Part {
 
 /// What a parameter area holds. After a refusal everything else is 0.
 #[derive(Clone, Copy, Debug, Default, PartialEq, Eq)]
+#[repr(C)]
 pub struct Reading {
     pub refusal: u8,
     pub dynamic: u8,
@@ -71,6 +74,7 @@ pub struct Reading {
 
 /// What an event did. After a refusal everything else is 0.
 #[derive(Clone, Copy, Debug, Default, PartialEq, Eq)]
+#[repr(C)]
 pub struct Answer {
     pub refusal: u8,
     pub outcome: u8,
@@ -81,6 +85,7 @@ pub struct Answer {
 
 /// Whether one kind may be sent.
 #[derive(Clone, Copy, Debug, Default, PartialEq, Eq)]
+#[repr(C)]
 pub struct Permission {
     pub refusal: u8,
     pub permitted: u8,
@@ -88,6 +93,7 @@ pub struct Permission {
 
 /// All the kinds that may be sent, kind k at bit k.
 #[derive(Clone, Copy, Debug, Default, PartialEq, Eq)]
+#[repr(C)]
 pub struct Kinds {
     pub refusal: u8,
     pub kinds: u16,
@@ -95,6 +101,7 @@ pub struct Kinds {
 
 /// How long to wait before the next attempt at a session.
 #[derive(Clone, Copy, Debug, Default, PartialEq, Eq)]
+#[repr(C)]
 pub struct Retry {
     pub refusal: u8,
     pub interval: u16,

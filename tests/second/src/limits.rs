@@ -8,13 +8,15 @@ use crate::Refusal;
 const HIGHEST: u8 = 64;
 
 /// The limit of each application, TA-Id n at n-1.
-#[derive(Clone, Copy, Debug, PartialEq, Eq)]
+#[derive(Clone, Copy, Debug, Default, PartialEq, Eq)]
+#[repr(C)]
 pub struct Limits {
     pub of: [u8; Application::ALL.len()],
 }
 
 /// Limits with one of them set. After a refusal they are as handed in.
 #[derive(Clone, Copy, Debug, PartialEq, Eq)]
+#[repr(C)]
 pub struct Limited {
     pub refusal: u8,
     pub limits: Limits,

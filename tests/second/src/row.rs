@@ -14,6 +14,7 @@ const LONGEST: usize = 64;
 
 /// How many sessions of a row use an application. After a refusal it is 0.
 #[derive(Clone, Copy, Debug, Default, PartialEq, Eq)]
+#[repr(C)]
 pub struct Count {
     pub refusal: u8,
     pub count: u8,
@@ -21,6 +22,7 @@ pub struct Count {
 
 /// An event as numbers; which ones count depends on the first.
 #[derive(Clone, Copy, Debug, Default, PartialEq, Eq)]
+#[repr(C)]
 pub struct Event {
     pub which: u32,
     pub ta_id: u32,
