@@ -70,43 +70,43 @@ module _ (c : List ℕ) (a : ℕ) where
           rw (sym e) (getD-set-same (counted c a k) k (more (getD c k 0) (has a k)) 0 (rw (counted-length k) s))
 
 -- ---- counts that stop at mostSessions
-pub capped-is : (n : ℕ) → n ≤ 64 → capped n ≡ n
+pub capped-is : (n : ℕ) → n ≤ mostSessions → capped n ≡ n
 unfolding capped
-capped-is n l = taken _ _ (le-leb n 64 l)
+capped-is n l = taken _ _ (le-leb n mostSessions l)
 
-capped-most : (n : ℕ) → 64 ≤ n → capped n ≡ mostSessions
+capped-most : (n : ℕ) → mostSessions ≤ n → capped n ≡ mostSessions
 unfolding capped
-capped-most n l = go (decLt n 65)
+capped-most n l = go (decLt n (mostSessions + 1))
   where
-    go : Dec (n < 65) → pick (leb n mostSessions) n 64 ≡ mostSessions
-    go (yes h) = let e : n ≡ 64 = omega arith in taken _ _ (le-leb n 64 (omega arith)) ∙ e
-    go (no d) = left _ _ (lt-leb n 64 (omega arith))
+    go : Dec (n < mostSessions + 1) → pick (leb n mostSessions) n mostSessions ≡ mostSessions
+    go (yes h) = let e : n ≡ mostSessions = omega arith in taken _ _ (le-leb n mostSessions (omega arith)) ∙ e
+    go (no d) = left _ _ (lt-leb n mostSessions (omega arith))
 
 pub capped-le : (n : ℕ) → capped n ≤ mostSessions
 unfolding capped
-capped-le n = by-test (λ (m : ℕ). m ≤ mostSessions) (λ h. leb-true n 64 h) (λ _. le-refl mostSessions)
+capped-le n = by-test (λ (m : ℕ). m ≤ mostSessions) (λ h. leb-true n mostSessions h) (λ _. le-refl mostSessions)
 
-more-le : (n : ℕ) (on : Bool) → n ≤ 64 → more n on ≤ mostSessions
+more-le : (n : ℕ) (on : Bool) → n ≤ mostSessions → more n on ≤ mostSessions
 unfolding more
-more-le n true l = by-test (λ (m : ℕ). m ≤ mostSessions) (λ h. let k = ltb-true n 64 h in omega arith) (λ _. l)
+more-le n true l = by-test (λ (m : ℕ). m ≤ mostSessions) (λ h. let k = ltb-true n mostSessions h in omega arith) (λ _. l)
 more-le n false l = by-test (λ (m : ℕ). m ≤ mostSessions) (λ h. absurd (false≢true h)) (λ _. l)
 
-more-capped : (n m : ℕ) (on : Bool) → n ≤ 64 → capped (more n on + m) ≡ capped (n + (pick on 1 0 + m))
+more-capped : (n m : ℕ) (on : Bool) → n ≤ mostSessions → capped (more n on + m) ≡ capped (n + (pick on 1 0 + m))
 unfolding more pick
 more-capped n m false l = let e : n + (0 + m) ≡ n + m = omega arith in sym (ap capped e)
 more-capped n m true l = go (ltb n mostSessions) refl
   where
-    go : (t : Bool) → ltb n 64 ≡ t → capped (pick t (n + 1) n + m) ≡ capped (n + (1 + m))
+    go : (t : Bool) → ltb n mostSessions ≡ t → capped (pick t (n + 1) n + m) ≡ capped (n + (1 + m))
     go true h = let e : n + 1 + m ≡ n + (1 + m) = omega arith in ap capped e
-    go false h = let k = ltb-false n 64 h in capped-most (n + m) (omega arith) ∙ sym (capped-most (n + (1 + m)) (omega arith))
+    go false h = let k = ltb-false n mostSessions h in capped-most (n + m) (omega arith) ∙ sym (capped-most (n + (1 + m)) (omega arith))
 
 -- less than a limit, stopped or not
-capped-ltb : (n m : ℕ) → m ≤ 64 → ltb (capped n) m ≡ ltb n m
-capped-ltb n m l = go (decLt n 65)
+capped-ltb : (n m : ℕ) → m ≤ mostSessions → ltb (capped n) m ≡ ltb n m
+capped-ltb n m l = go (decLt n (mostSessions + 1))
   where
-    go : Dec (n < 65) → ltb (capped n) m ≡ ltb n m
+    go : Dec (n < mostSessions + 1) → ltb (capped n) m ≡ ltb n m
     go (yes h) = ap (λ (k : ℕ). ltb k m) (capped-is n (omega arith))
-    go (no d) = ap (λ (k : ℕ). ltb k m) (capped-most n (omega arith)) ∙ le-ltb 64 m l ∙ sym (le-ltb n m (omega arith))
+    go (no d) = ap (λ (k : ℕ). ltb k m) (capped-most n (omega arith)) ∙ le-ltb mostSessions m l ∙ sym (le-ltb n m (omega arith))
 
 -- ---- the whole row
 tallied-sound : (t : Tally) (row : List Session) → tallied t row .sound ≡ t .sound && allSound row

@@ -8,8 +8,9 @@ use Rattle.choice.proofs.Tests.{and-first, and-second, and-both, not-false, onl
 use Rattle.sets.specs.Set.{empty, below}
 use Rattle.sets.proofs.Bounds.{below-lt, lt-below}
 use Rattle.sets.proofs.Subsets.{empty-is}
+use Rattle.kinds.specs.Kinds.{applicationCount, kindCount, appCount}
 use Rattle.session.specs.declared.Session.{Session}
-use Rattle.session.specs.Session.{isOpen, isHeld, isGone, active, usesTac, inForce, dynamic, recorded, negotiated, leavesGone, spareZero, forceSound, listedSound, openSound, helloSound, heldSound, goneSound, sound, Sound}
+use Rattle.session.specs.Session.{stateGone, flagCount, isOpen, isHeld, isGone, active, usesTac, inForce, dynamic, recorded, negotiated, leavesGone, spareZero, forceSound, listedSound, openSound, helloSound, heldSound, goneSound, sound, Sound}
 
 -- `not`, both ways
 not-true : {x : Bool} → x ≡ false → not x ≡ true
@@ -30,21 +31,21 @@ module _ (s : Session) where
       let t4 = and-second (openSound s) _ t3 in
       let t5 = and-second (helloSound s) _ t4 in
       let spare = and-first (spareZero s) _ h in
-      let s1 = and-second (leb (s .state) 3) _ spare in
-      let s2 = and-second (below 7 (s .flags)) _ s1 in
-      let s3 = and-second (below 13 (s .enabled)) _ s2 in
-      let s4 = and-second (below 13 (s .listed)) _ s3 in
+      let s1 = and-second (leb (s .state) stateGone) _ spare in
+      let s2 = and-second (below flagCount (s .flags)) _ s1 in
+      let s3 = and-second (below applicationCount (s .enabled)) _ s2 in
+      let s4 = and-second (below applicationCount (s .listed)) _ s3 in
       let force : inForce s ≡ true → (isOpen s && (usesTac s && not (empty (negotiated s)))) ≡ true = λ e. only-gives (inForce s) _ (and-first (forceSound s) _ t1) e in
       let shut : isOpen s ≡ false → (empty (s .disabled) && not (dynamic s)) ≡ true = λ e. unless-gives (isOpen s) _ (and-first (openSound s) _ t3) e in
       let held : isHeld s ≡ true → (active s && not (leavesGone s)) ≡ true = λ e. only-gives (isHeld s) _ (and-first (heldSound s) _ t5) e in
       let gone : isGone s ≡ true → (active s && (leavesGone s && not (recorded s))) ≡ true = λ e. only-gives (isGone s) _ (and-second (heldSound s) _ t5) e in
       record {
-        state = leb-true (s .state) 3 (and-first (leb (s .state) 3) _ spare);
-        flags = below-lt 7 (s .flags) (and-first (below 7 (s .flags)) _ s1);
-        enabled = below-lt 13 (s .enabled) (and-first (below 13 (s .enabled)) _ s2);
-        listed = below-lt 13 (s .listed) (and-first (below 13 (s .listed)) _ s3);
-        protects = below-lt 10 (s .protects) (and-first (below 10 (s .protects)) _ s4);
-        disabled = below-lt 4 (s .disabled) (and-second (below 10 (s .protects)) _ s4);
+        state = leb-true (s .state) stateGone (and-first (leb (s .state) stateGone) _ spare);
+        flags = below-lt flagCount (s .flags) (and-first (below flagCount (s .flags)) _ s1);
+        enabled = below-lt applicationCount (s .enabled) (and-first (below applicationCount (s .enabled)) _ s2);
+        listed = below-lt applicationCount (s .listed) (and-first (below applicationCount (s .listed)) _ s3);
+        protects = below-lt kindCount (s .protects) (and-first (below kindCount (s .protects)) _ s4);
+        disabled = below-lt appCount (s .disabled) (and-second (below kindCount (s .protects)) _ s4);
         force-open = λ e. and-first (isOpen s) _ (force e);
         force-uses = λ e. and-first (usesTac s) _ (and-second (isOpen s) _ (force e));
         force-common = λ e. not-false _ (and-second (usesTac s) _ (and-second (isOpen s) _ (force e)));
@@ -62,8 +63,8 @@ module _ (s : Session) where
   pub means-sound : Sound s → sound s ≡ true
   unfolding sound spareZero forceSound listedSound openSound helloSound heldSound goneSound
   means-sound r =
-      and-both _ _ (and-both _ _ (le-leb _ _ (r .state)) (and-both _ _ (lt-below 7 _ (r .flags)) (and-both _ _ (lt-below 13 _ (r .enabled))
-      (and-both _ _ (lt-below 13 _ (r .listed)) (and-both _ _ (lt-below 10 _ (r .protects)) (lt-below 4 _ (r .disabled)))))))
+      and-both _ _ (and-both _ _ (le-leb _ _ (r .state)) (and-both _ _ (lt-below flagCount _ (r .flags)) (and-both _ _ (lt-below applicationCount _ (r .enabled))
+      (and-both _ _ (lt-below applicationCount _ (r .listed)) (and-both _ _ (lt-below kindCount _ (r .protects)) (lt-below appCount _ (r .disabled)))))))
       (and-both _ _ (only-holds (inForce s) _ (λ e. and-both _ _ (r .force-open e) (and-both _ _ (r .force-uses e) (not-true (r .force-common e)))))
       (and-both _ _ (unless-holds (inForce s) _ (λ e. is-empty (r .unforced-listed e)))
       (and-both _ _ (unless-holds (isOpen s) _ (λ e. and-both _ _ (is-empty (r .shut-disabled e)) (not-true (r .shut-dynamic e))))

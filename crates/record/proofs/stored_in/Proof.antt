@@ -7,7 +7,7 @@ use lib.ListN.{length, drop-of-length-le}
 use borrow.Author.Tests.{eq-eqb, ne-eqb, le-leb}
 use Rattle.choice.proofs.Branch.{taken, left}
 use Rattle.octets.specs.Octets.{over}
-use Rattle.record.specs.Record.{encoded, storedIn}
+use Rattle.record.specs.Record.{recordLength, encoded, storedIn}
 use borrow.Author.Needs.{needs}
 use Rattle.record.proofs.stored_in.Statement.{statement}
 use Rattle.record.proofs.stored_in.Tie as tie
@@ -23,9 +23,9 @@ returns-2 c =
     let n = c .before .before .before .before .before .before .if1 .left in
     c .before .before .put .ensures
     ∙ ap (λ (l : List ℕ). over l (a .lent .now)) (c .before .before .before .before .before .encoded .ensures)
-    ∙ taken _ _ (le-leb 22 (length (a .lent .now)) (omega arith))
-    ∙ ap (λ (l : List ℕ). encoded (a .s) ++ l) (drop-of-length-le (a .lent .now) {i = 22} (omega arith))
-    ∙ sym (taken (encoded (a .s)) (a .lent .now) (eq-eqb (length (a .lent .now)) 22 n))
+    ∙ taken _ _ (le-leb recordLength (length (a .lent .now)) (omega arith))
+    ∙ ap (λ (l : List ℕ). encoded (a .s) ++ l) (drop-of-length-le (a .lent .now) {i = recordLength} (omega arith))
+    ∙ sym (taken (encoded (a .s)) (a .lent .now) (eq-eqb (length (a .lent .now)) recordLength n))
 
 pub stored-in-spec : {M : Type 1} → statement M
 stored-in-spec =
