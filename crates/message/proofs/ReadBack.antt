@@ -16,7 +16,7 @@ use Rattle.area.specs.Found.{none}
 use Rattle.area.specs.Area.{at16, takeTlv, passOther, byType, tlvAt, readFrom, readArea, part}
 use Rattle.lists.specs.Tac.{sBit, idAt, eAt, stood, after, tacList}
 use Rattle.message.specs.declared.Message.the-variants.{Change}
-use Rattle.message.specs.Message.{oneElement, tacOctets, messageOf, octetsOf, changeLength}
+use Rattle.message.specs.Message.{messageHeadLength, oneElement, tacOctets, messageOf, octetsOf, changeLength}
 
 -- the reading of such an area: a TAC of 5 octets from the fifth on, and nothing else
 abbrev pub oneTac : Reading
@@ -26,7 +26,7 @@ module _ (number n : ℕ) (on : Bool) where
   pub change-length : length (octetsOf (Change number n on)) ≡ changeLength
   change-length = refl
 
-  pub last-nine : drop 8 (messageOf number n on) ≡ tacOctets n on
+  pub last-nine : drop messageHeadLength (messageOf number n on) ≡ tacOctets n on
   last-nine = refl
 
   pub read-back : readArea (tacOctets n on) ≡ oneTac

@@ -28,6 +28,9 @@ ours type value = record { head = uBit + type; value = value }
 abbrev pub messageHead : ℕ → ℕ → ℕ → List ℕ
 messageHead type len number = be16 type ++ (be16 (4 + len) ++ be32 number)
 
+abbrev pub messageHeadLength : ℕ
+messageHeadLength = 8
+
 abbrev pub message : ℕ → ℕ → List ℕ → List ℕ
 message type number area = messageHead type (length area) number ++ area
 

@@ -28,7 +28,7 @@ const ONE_ELEMENT_TAC: usize = area::HEAD_LENGTH + ONE_ELEMENT;
 pub const CHANGE_LENGTH: usize = MESSAGE_HEAD + ONE_ELEMENT_TAC;
 
 // What stands before the area of a message of type t, `len` the length of its area: the message's length counts its number too.
-fn message_head(t: u32, len: usize, number: u32) -> [u8; 8]
+fn message_head(t: u32, len: usize, number: u32) -> [u8; MESSAGE_HEAD]
     requires { ⌜ len < 65536 ⌝ }
     ensures { λ r. ⌜ r ≡ messageHead t len number ⌝ }
 {

@@ -1,22 +1,20 @@
 -- Over any run a sound session stays sound, and what is refused changes nothing. By the laws of one event, and induction over the events.
 -- Assumes nothing.
 use Prim.Native.Nat.{ℕ}
-use mathlib.Core.Path.{_≡_, refl, ap, _∙_}
+use mathlib.Core.Path.{_≡_, refl, ap}
 use mathlib.Core.List.{List, [], _∷_}
-use lib.Dec.{eqb, ltb}
-use Rattle.choice.specs.Pick.{pick}
-use Rattle.choice.proofs.Branch.{by-test, pick-both, left}
-use Rattle.refusals.specs.Refusals.{notRefused, wrongState}
+use lib.Dec.{ltb}
+use Rattle.choice.proofs.Branch.{left}
 use Rattle.kinds.specs.Kinds.{allApplications}
 use Rattle.message.specs.Message.{roomWith}
 use Rattle.area.specs.Area.{readArea}
 use Rattle.session.specs.declared.Session.{Session}
 use Rattle.session.specs.declared.After.{After}
-use Rattle.session.specs.Session.{isReady, sound, Sound}
-use Rattle.session.specs.Decisions.{Decision, settled}
-use Rattle.session.specs.Events.{afterInitialization, onInitialization, Event, step, run, roomAfter}
+use Rattle.session.specs.Session.{Sound}
+use Rattle.session.specs.Decisions.{Negotiate, settled}
+use Rattle.session.specs.Events.{afterInitialization, Event, step, run, roomAfter}
 use Rattle.session.proofs.SoundMeans.{sound-means, means-sound}
-use Rattle.session.proofs.Steps.{step-sound, step-bare, admit-all}
+use Rattle.session.proofs.Steps.{step-sound, step-bare, admit-all, initialization-along}
 use Rattle.promises.specs.Run.{SoundOverRuns, RefusedIsNothing, RoomStays, RefusedCanGo, WithoutLimits}
 
 run-sound : (s : Session) (es : List Event) → Sound s → Sound (run s es)
@@ -39,13 +37,7 @@ refused-can-go s (b ∷ before) e behind h = refused-can-go (step s b .session) 
 
 -- of a sound session every application that is enabled is one, and so is below its limit
 pub without-limits : WithoutLimits
-unfolding onInitialization afterInitialization
+unfolding afterInitialization
 without-limits s a =
-    pick-both Same (sound s)
-    (λ h. pick-both Same (isReady s)
-    (λ _. pick-both Same (eqb (readArea a .refusal) notRefused) (λ _. admit-all s (afterInitialization s a (readArea a)) (sound-means s h .enabled)) (λ _. refl))
-    (λ _. refl))
-    (λ _. refl)
-  where
-    Same : Decision → Decision → Type 0
-    Same c c′ = settled s c ≡ settled s c′
+    let t = afterInitialization s a (readArea a) in
+    initialization-along (λ c c′. settled s c ≡ settled s c′) s a allApplications (Negotiate t) (λ h. admit-all s t (sound-means s h .enabled)) (λ _. refl)

@@ -20,7 +20,7 @@ use Rattle.area.specs.declared.Reading.{Reading}
 use Rattle.area.specs.Area.{part}
 use Rattle.lists.specs.Tac.{tacList}
 use Rattle.lists.specs.Sac.{sacAfter, sacList}
-use Rattle.message.specs.Message.{oneElement, tacOctets, messageOf, changeLength, roomWith}
+use Rattle.message.specs.Message.{messageHeadLength, oneElement, tacOctets, messageOf, changeLength, roomWith}
 use Rattle.message.proofs.ReadBack.{oneTac, last-nine, read-back, s-back, list-back}
 use Rattle.session.specs.declared.Session.{Session}
 use Rattle.session.specs.declared.After.{After}
@@ -65,12 +65,12 @@ module _ (s : Session) (n : ℕ) (on : Bool) (room : ℕ) where
 
 -- its last 9 octets are the TAC
 area-of : (s : Session) (n : ℕ) (on : Bool) (room : List ℕ) → step s (LocalChange n on (length room)) .answer .written ≡ changeLength
-    → drop 8 (take changeLength (roomAfter s (LocalChange n on (length room)) room)) ≡ tacOctets n on
+    → drop messageHeadLength (take changeLength (roomAfter s (LocalChange n on (length room)) room)) ≡ tacOctets n on
 unfolding roomAfter roomWith over
 area-of s n on room w =
-    ap (λ (l : List ℕ). drop 8 (take changeLength l))
+    ap (λ (l : List ℕ). drop messageHeadLength (take changeLength l))
     (taken _ _ (ap (λ (x : ℕ). ltb 0 x) w) ∙ taken _ _ (le-leb changeLength (length room) (wrote s n on (length room) w .enough)))
-    ∙ ap (λ (l : List ℕ). drop 8 l) (take-append-seam (messageOf (s .next) n on) (drop changeLength room))
+    ∙ ap (λ (l : List ℕ). drop messageHeadLength l) (take-append-seam (messageOf (s .next) n on) (drop changeLength room))
     ∙ last-nine (s .next) n on
 
 -- ---- at the other end

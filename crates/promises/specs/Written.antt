@@ -5,7 +5,7 @@ use mathlib.Core.Bool.{Bool, true}
 use mathlib.Core.List.{List}
 use lib.ListN.{length, take, drop}
 use Rattle.kinds.specs.Kinds.{isIn}
-use Rattle.message.specs.Message.{changeLength}
+use Rattle.message.specs.Message.{messageHeadLength, changeLength}
 use Rattle.session.specs.declared.Session.{Session}
 use Rattle.session.specs.Session.{isOpen, usesTac, inForce, sound}
 use Rattle.session.specs.With.{withListing}
@@ -30,4 +30,4 @@ abbrev pub ReadAsMeant : Type 0
 ReadAsMeant =
     (s : Session) (es : List Event) (n : ℕ) (on : Bool) (room : List ℕ) (t : Session)
     → step (run s es) (LocalChange n on (length room)) .answer .written ≡ changeLength
-    → OtherEnd t → ExactlyThat t n on (drop 8 (take changeLength (roomAfter (run s es) (LocalChange n on (length room)) room)))
+    → OtherEnd t → ExactlyThat t n on (drop messageHeadLength (take changeLength (roomAfter (run s es) (LocalChange n on (length room)) room)))

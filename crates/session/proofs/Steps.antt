@@ -13,7 +13,7 @@ use Rattle.choice.proofs.Branch.{by-test, pick-both, taken, left}
 use Rattle.sets.specs.Set.{has, common, empty, minus}
 use Rattle.sets.proofs.Bounds.{common-lt}
 use Rattle.sets.proofs.Members.{has-common, has-all, ext}
-use Rattle.refusals.specs.Refusals.{notRefused}
+use Rattle.refusals.specs.Refusals.{notRefused, wrongState, notSound}
 use Rattle.kinds.specs.Kinds.{applicationCount, allApplications}
 use Rattle.area.specs.Area.{readArea}
 use Rattle.session.specs.declared.Session.{Session}
@@ -22,7 +22,7 @@ use Rattle.session.specs.Session.{isReady, isOpen, inForce, negotiated, 
 use Rattle.session.specs.With.{mismatched}
 use Rattle.session.specs.Limits.{atLimit}
 use Rattle.session.specs.Decisions.{outcomeAtLimit, refused, answered, Decision, Refused, Unchanged, Done, AsMismatch, Negotiate, Admit, Send, settled}
-use Rattle.session.specs.Events.{checked, afterInitialization, onInitialization, onMismatch, Event, Initialization, Mismatch, Numbered, decision, step}
+use Rattle.session.specs.Events.{checked, unlessRefused, afterInitialization, onInitialization, onMismatch, Event, Initialization, Mismatch, Numbered, decision, step}
 use Rattle.session.proofs.SoundMeans.{sound-means, means-sound}
 use Rattle.session.proofs.Made.{ready-shut, mismatched-sound, mismatched-shut, next-sound, opened-mismatched}
 use Rattle.session.proofs.View.{Narrow, admits-opens, Facts, facts-of}
@@ -154,15 +154,22 @@ admit-unlimited s t belowLimit small =
     Same : After → After → Type 0
     Same z z′ = (z .answer .outcome ≡ outcomeAtLimit → ⊥) → z ≡ z′
 
+-- two Initializations that differ only in what is asked of the session that they open: what holds of that, and of every refusal, holds of both
+pub initialization-along : (R : Decision → Decision → Type 0) (s : Session) (a : List ℕ) (b : ℕ) (c : Decision)
+    → (sound s ≡ true → R (Admit (afterInitialization s a (readArea a)) b) c) → ((n : ℕ) → R (Refused n) (Refused n))
+    → R (onInitialization s a b) (checked s (pick (isReady s) (unlessRefused (readArea a) c) (Refused wrongState)))
+unfolding onInitialization
+initialization-along R s a b c f g =
+    pick-both R (sound s)
+    (λ h. pick-both R (isReady s) (λ _. pick-both R (eqb (readArea a .refusal) notRefused) (λ _. f h) (λ _. g (readArea a .refusal))) (λ _. g wrongState))
+    (λ _. g notSound)
+
 pub initialization-unlimited : (s : Session) (a : List ℕ) (belowLimit : ℕ) → (step s (Initialization a belowLimit) .answer .outcome ≡ outcomeAtLimit → ⊥)
     → step s (Initialization a belowLimit) ≡ step s (Initialization a allApplications)
 unfolding onInitialization afterInitialization
 initialization-unlimited s a belowLimit =
-    pick-both Same (sound s)
-    (λ h. pick-both Same (isReady s)
-    (λ _. pick-both Same (eqb (readArea a .refusal) notRefused)
-    (λ _. admit-unlimited s (afterInitialization s a (readArea a)) belowLimit (sound-means s h .enabled)) (λ _ _. refl)) (λ _ _. refl))
-    (λ _ _. refl)
+    let t = afterInitialization s a (readArea a) in
+    initialization-along Same s a belowLimit (Admit t allApplications) (λ h. admit-unlimited s t belowLimit (sound-means s h .enabled)) (λ _ _. refl)
   where
     Same : Decision → Decision → Type 0
     Same c c′ = (settled s c .answer .outcome ≡ outcomeAtLimit → ⊥) → settled s c ≡ settled s c′
