@@ -60,41 +60,28 @@ fn refuse(n: u8) -> Reading
 
 // What was found, with a TLV's value in its slot.
 impl Reading {
-    fn with_tac(self, value: Span) -> Reading
+    fn with_tac(mut self, value: Span) -> Reading
         ensures { λ r. ⌜ r ≡ withTac value self ⌝ }
     {
-        let sac = self.sac;
-        Reading {
-            refusal: refusals::NOT_REFUSED,
-            dynamic: self.dynamic,
-            tac: value,
-            sac,
-        }
+        self.refusal = refusals::NOT_REFUSED;
+        self.tac = value;
+        self
     }
 
-    fn with_sac(self, value: Span) -> Reading
+    fn with_sac(mut self, value: Span) -> Reading
         ensures { λ r. ⌜ r ≡ withSac value self ⌝ }
     {
-        let tac = self.tac;
-        Reading {
-            refusal: refusals::NOT_REFUSED,
-            dynamic: self.dynamic,
-            tac,
-            sac: value,
-        }
+        self.refusal = refusals::NOT_REFUSED;
+        self.sac = value;
+        self
     }
 
-    fn with_dynamic(self, value: Span) -> Reading
+    fn with_dynamic(mut self, value: Span) -> Reading
         ensures { λ r. ⌜ r ≡ withDynamic value self ⌝ }
     {
-        let tac = self.tac;
-        let sac = self.sac;
-        Reading {
-            refusal: refusals::NOT_REFUSED,
-            dynamic: true,
-            tac,
-            sac,
-        }
+        self.refusal = refusals::NOT_REFUSED;
+        self.dynamic = true;
+        self
     }
 }
 
