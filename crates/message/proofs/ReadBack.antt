@@ -10,17 +10,16 @@ use Rattle.choice.specs.Pick.{pick}
 use Rattle.octets.proofs.Numbers.{forth16, top-back}
 use Rattle.sets.specs.Set.{switched}
 use Rattle.kinds.specs.Kinds.{applicationCount}
-use Rattle.refusals.specs.Refusals.{notRefused}
 use Rattle.area.specs.declared.Reading.{Reading}
-use Rattle.area.specs.Found.{none}
-use Rattle.area.specs.Area.{at16, takeTlv, passOther, byType, tlvAt, readFrom, readArea, part}
+use Rattle.area.specs.Found.{nothingFound, withTac}
+use Rattle.area.specs.Area.{headLength, at16, takeTlv, passOther, byType, tlvAt, readFrom, readArea, part}
 use Rattle.lists.specs.Tac.{sBit, idAt, eAt, stood, after, tacList}
 use Rattle.message.specs.declared.Message.the-variants.{Change}
 use Rattle.message.specs.Message.{messageHeadLength, oneElement, tacOctets, messageOf, octetsOf, changeLength}
 
 -- the reading of such an area: a TAC of 5 octets from the fifth on, and nothing else
 abbrev pub oneTac : Reading
-oneTac = record { refusal = notRefused; tac = record { start = 4; len = 5 }; sac = none; dynamic = false }
+oneTac = withTac (record { start = headLength; len = 5 }) nothingFound
 
 module _ (number n : ℕ) (on : Bool) where
   pub change-length : length (octetsOf (Change number n on)) ≡ changeLength

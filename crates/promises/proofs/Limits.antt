@@ -30,13 +30,12 @@ use Rattle.session.specs.Decisions.{outcomeDone, outcomeAtLimit, answered, sett
 use Rattle.session.specs.Events.{afterInitialization, onInitialization, Event, decision, step}
 use Rattle.session.proofs.SoundMeans.{sound-means}
 use Rattle.session.proofs.Made.{mismatched-shut}
-use Rattle.session.proofs.View.{Admits}
 use Rattle.session.proofs.Steps.{initialization-unlimited, away, away-facts, away-shut, away-session, away-answer}
-use Rattle.row.specs.declared.EventNumbers.{EventNumbers}
 use Rattle.row.specs.declared.Limits.{Limits}
 use Rattle.row.specs.Limiting.{mostSessions, noLimits, capped, limitOf}
 use Rattle.row.specs.Events.{initializationNumber, eventOf}
 use Rattle.row.specs.Row.{sessionAt, uses, count, belowLimit, allSound, inRow, eventIn, eventAt}
+use Rattle.row.proofs.EventCases.{admits-own}
 use Rattle.row.proofs.Tallied.{capped-is, count-le}
 use Rattle.promises.specs.Rows.{RowEvent, rowStep, rowRun, TurnedAway, LimitIsMismatch, FindsCommon, BelowLimit, LimitDecides, LimitsDecide, BaseWhereNoLimitBinds, NoLimitBindsUnset}
 use Rattle.promises.proofs.Rows.{sound-at}
@@ -205,17 +204,6 @@ shut-uses s n h = ap (λ (u : ℕ). knownApplication n && has u (n - 1)) (left _
 
 unset : (n : ℕ) → 1 ≤ n → n ≤ applicationCount → limitOf noLimits n ≡ mostSessions
 unset n least most = ap capped (getD-replicate applicationCount (n - 1) mostSessions 0 (omega arith)) ∙ capped-is mostSessions (lit≤ tt)
-
--- only an Initialization is admitted, and it was told these
-admits-own : (e : EventNumbers) (x : ℕ) (area : List ℕ) (room : ℕ) (s t : Session) (b : ℕ) → Admits s (eventOf e x area room) t b → b ≡ x
-unfolding eventOf
-admits-own e x area room s t b =
-    by-test P (λ _ f. f .1)
-    (λ _. by-test P (λ _ f. absurd f)
-    (λ _. by-test P (λ _ f. absurd f) (λ _. by-test P (λ _ f. absurd f) (λ _. by-test P (λ _ f. absurd f) (λ _. by-test P (λ _ f. absurd f) (λ _ f. absurd f))))))
-  where
-    P : Event → Type 0
-    P ev = Admits s ev t b → b ≡ x
 
 module _ (row : List Session) (e : RowEvent) (u : e .limits ≡ noLimits) (h : rowStep row e .answer .outcome ≡ outcomeAtLimit) where
   found : RowAway row e (rowStep row e)

@@ -1,6 +1,6 @@
 -- A sound session is read back as it was stored, and a sound record is stored as it was read. Field by field, by the laws of numbers in octets; the
 -- head of a record is its only one. Assumes nothing.
-use Prim.Native.Nat.{ℕ, zero, suc, _<_}
+use Prim.Native.Nat.{ℕ, zero, suc, _%_, _<_}
 use mathlib.Core.Path.{_≡_, refl, sym, ap, _∙_, subst}
 use mathlib.Core.Bool.{Bool, true, false, false≢true}
 use mathlib.Core.List.{List, [], _∷_}
@@ -61,7 +61,7 @@ module _ (l : List ℕ) (o : (i : ℕ) → getD l i 0 < 256) where
       let o1 = o 1 in
       let o2 = o 2 in
       let o3 = o 3 in
-      let g0 : getD l 0 0 ≡ 20 = omega arith in
+      let g0 : getD l 0 0 ≡ lengthField % 256 = omega arith in
       let g1 : getD l 1 0 ≡ 0 = omega arith in
       let g2 : getD l 2 0 ≡ 1 = omega arith in
       let g3 : getD l 3 0 ≡ 0 = omega arith in

@@ -1,10 +1,10 @@
 // The stored record, 22 octets, and the session that it holds.
 ghost use mathlib.Core.Path.{_≡_};
-ghost use Prim.Native.Nat.{_<_};
+ghost use Prim.Native.Nat.{_≤_};
 ghost use lib.ListN.{length};
 ghost use Rattle.record.specs.Carried.{Carried};
 ghost use Rattle.record.specs.Loaded.{load, storeRefusal, storeOctets};
-ghost use Rattle.record.specs.Record.{encoded, storedIn, headed, fields, decoded};
+ghost use Rattle.record.specs.Record.{recordLength, encoded, storedIn, headed, fields, decoded};
 use session::After;
 use session::Answer;
 use session::Session;
@@ -71,7 +71,7 @@ pub fn stored_in(s: Session, lent: &mut [u8])
 
 // Length, kind and the zero octet as they must be.
 fn headed(lent: &[u8]) -> bool
-    requires { ⌜ 21 < length (now lent) ⌝ }
+    requires { ⌜ recordLength ≤ length (now lent) ⌝ }
     ensures { λ r. ⌜ r ≡ headed (now (lent .entry)) ⌝ }
 {
     let kind = (octets::read16(lent, 2) == KIND_FIELD) & (lent[13] == 0);
@@ -79,7 +79,7 @@ fn headed(lent: &[u8]) -> bool
 }
 
 fn fields(lent: &[u8]) -> Session
-    requires { ⌜ 21 < length (now lent) ⌝ }
+    requires { ⌜ recordLength ≤ length (now lent) ⌝ }
     ensures { λ r. ⌜ r ≡ fields (now (lent .entry)) ⌝ }
 {
     let enabled = octets::read16(lent, 6);

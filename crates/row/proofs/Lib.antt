@@ -1,4 +1,5 @@
 pub mod Locals
 pub mod Walk
+pub mod EventCases
 pub mod Tallied
 pub mod Determined

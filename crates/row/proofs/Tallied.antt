@@ -7,12 +7,12 @@ use mathlib.Core.Bool.{Bool, true, false, _&&_, false≢true}
 use mathlib.Core.List.{List, [], _∷_}
 use lib.ListN.{length, getD, set, length-set, getD-replicate}
 use lib.Seq.{getD-set-same, getD-set-other, set-getD}
-use lib.Dec.{eqb, ltb, leb}
+use lib.Dec.{ltb, leb}
 use native.Mathlib.Decide.{decLt}
 use native.Mathlib.Nat.{le-refl, zero-add}
 use native.Mathlib.Numerals.{add-one}
 use native.Mathlib.Omega.{arith}
-use borrow.Author.Tests.{eqb-true, ltb-true, ltb-false, le-ltb, le-leb, leb-true, lt-leb}
+use borrow.Author.Tests.{ltb-true, ltb-false, le-ltb, le-leb, leb-true, lt-leb}
 use Rattle.choice.specs.Pick.{pick}
 use Rattle.choice.proofs.Branch.{taken, left, by-test, pick-both}
 use Rattle.choice.proofs.Tests.{and-second}
@@ -22,23 +22,23 @@ use Rattle.sets.proofs.Switches.{is-numbered, numbered-is}
 use Rattle.kinds.specs.Kinds.{applicationCount, knownApplication, isIn}
 use Rattle.refusals.specs.Refusals.{notRefused, notSound, outsideRow}
 use Rattle.message.specs.declared.Message.{Message}
-use Rattle.message.specs.declared.Message.the-variants.{NoMessage, Change}
 use Rattle.message.specs.Message.{roomWith}
 use Rattle.session.specs.declared.Session.{Session}
 use Rattle.session.specs.declared.After.{After}
 use Rattle.session.specs.Session.{sound}
 use Rattle.session.specs.With.{noSession}
 use Rattle.session.specs.Decisions.{refused}
-use Rattle.session.specs.Events.{Event, step, messageFor}
+use Rattle.session.specs.Events.{step}
 use Rattle.session.specs.Limits.{used}
 use Rattle.row.specs.declared.EventNumbers.{EventNumbers}
 use Rattle.row.specs.declared.Limits.{Limits}
 use Rattle.row.specs.declared.Tally.{Tally}
 use Rattle.row.specs.declared.Count.{Count}
 use Rattle.row.specs.Limiting.{mostSessions, capped, limitOf}
-use Rattle.row.specs.Events.{initializationNumber, capabilityNumber, localChangeNumber, isOn, eventOf, messageIn}
+use Rattle.row.specs.Events.{eventOf}
 use Rattle.row.specs.Row.{sessionAt, uses, count, belowLimit, allSound, isRow, inRow, eventAt, outside, rowAfter, roomAfter, notCounted, countOf}
 use Rattle.row.specs.Counting.{emptyTally, more, counted, tally, tallied, isBelow, belowLimitBy, decidedBy, roomBy, countBy}
+use Rattle.row.proofs.EventCases.{message-same}
 
 -- ---- one set of counts
 pub counted-more : (c : List ℕ) (a k : ℕ) → counted c a (k + 1) ≡ set (counted c a k) k (more (getD c k 0) (has a k))
@@ -162,21 +162,6 @@ unfolding count
 count-le [] n = le-refl 0
 count-le (s ∷ row) n = let h = count-le row n in by-test (λ (m : ℕ). m + count row n ≤ suc (length row)) (λ _. omega arith) (λ _. omega arith)
 
--- ---- what an event may write
-pub message-same : (e : EventNumbers) (s : Session) (b : ℕ) (area : List ℕ) (room : ℕ) → messageIn e s ≡ messageFor s (eventOf e b area room)
-unfolding messageIn eventOf
-message-same e s b area room =
-    by-test Same (λ w. other (eqb-true (e .which) initializationNumber w) (left _ _ refl))
-    (λ _. by-test Same (λ w. other (eqb-true (e .which) capabilityNumber w) (left _ _ refl))
-    (λ _. by-test Same (λ w. taken _ _ w)
-    (λ n. by-test Same (λ _. left _ _ n) (λ _. by-test Same (λ _. left _ _ n) (λ _. by-test Same (λ _. left _ _ n) (λ _. left _ _ n))))))
-  where
-    Same : Event → Type 0
-    Same ev = messageIn e s ≡ messageFor s ev
-
-    other : {k : ℕ} → e .which ≡ k → pick (eqb k localChangeNumber) (Change (s .next) (e .«ta_id») (isOn e)) NoMessage ≡ NoMessage → messageIn e s ≡ NoMessage
-    other w f = ap (λ (k : ℕ). pick (eqb k localChangeNumber) (Change (s .next) (e .«ta_id») (isOn e)) NoMessage) w ∙ f
-
 -- ---- by what the pass found
 module _ (row : List Session) (at : ℕ) (e : EventNumbers) (l : Limits) (area : List ℕ) where
   pub event-in-row : (room : ℕ) → inRow row at ≡ true → decidedBy (sessionAt row at) (tallied emptyTally row) e l area room ≡ eventAt row at e l area room
@@ -191,7 +176,7 @@ module _ (row : List Session) (at : ℕ) (e : EventNumbers) (l : Limits) (area :
   unfolding roomBy roomAfter
   room-in-row room inside =
       let s = sessionAt row at in
-      ap₂ (λ (a : After) (m : Message). roomWith (a .answer .written) m room) (event-in-row (length room) inside) (message-same e s (belowLimit l row) area (length room))
+      ap₂ (λ (a : After) (m : Message). roomWith (a .answer .written) m room) (event-in-row (length room) inside) (message-same e (belowLimit l row) area (length room) s)
 
   -- where nothing was written the room stays
   pub room-stays : (room : List ℕ) → eventAt row at e l area (length room) .answer .written ≡ 0 → roomAfter row at e l area room ≡ room

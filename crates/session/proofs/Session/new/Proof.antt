@@ -1,4 +1,6 @@
 -- `Session::new` meets its contract: within its limits each set fits 16 bits. Assumes nothing.
+use Prim.Native.Nat.{_^_}
+use Rattle.kinds.specs.Kinds.{applicationCount, kindCount}
 use native.Mathlib.Omega.{arith}
 use lib.Dec.{ltb}
 use borrow.Author.Tests.{ltb-true}
@@ -11,10 +13,10 @@ use Rattle.session.proofs.Session.new.Statement.{statement}
 use Rattle.session.proofs.Session.new.Tie as tie
 
 cast-t12 : tie.Need-cast-t12
-cast-t12 c = omega (arith, ltb-true (c .before .before .args .enabled) 8192 (and-second (ltb (c .before .before .args .protects) 1024) (ltb (c .before .before .args .enabled) 8192) (c .if1 .taken)))
+cast-t12 c = omega (arith, ltb-true (c .before .before .args .enabled) (2 ^ applicationCount) (and-second (ltb (c .before .before .args .protects) (2 ^ kindCount)) (ltb (c .before .before .args .enabled) (2 ^ applicationCount)) (c .if1 .taken)))
 
 cast-t13 : tie.Need-cast-t13
-cast-t13 c = omega (arith, ltb-true (c .before .before .args .protects) 1024 (and-first (ltb (c .before .before .args .protects) 1024) (ltb (c .before .before .args .enabled) 8192) (c .if1 .taken)))
+cast-t13 c = omega (arith, ltb-true (c .before .before .args .protects) (2 ^ kindCount) (and-first (ltb (c .before .before .args .protects) (2 ^ kindCount)) (ltb (c .before .before .args .enabled) (2 ^ applicationCount)) (c .if1 .taken)))
 
 returns : tie.Need-returns
 unfolding created below
