@@ -1,6 +1,7 @@
 //! Parameter areas, well formed and damaged.
 
 use crate::numbers::Numbers;
+use crate::widths::APPLICATIONS;
 
 const TAC: u16 = 0x050F;
 const SAC: u16 = 0x050D;
@@ -169,12 +170,12 @@ fn tac(numbers: &mut Numbers, hint: u16, count: usize) -> Vec<u8> {
     for counts in counting(numbers, count) {
         let id = match counts {
             true => ta_id(numbers, hint, &ids),
-            false => numbers.between(14, 0xFFFF) as u16,
+            false => numbers.between(APPLICATIONS + 1, 0xFFFF) as u16,
         };
         ids.push(id);
     }
     if count < 64 && numbers.chance(5) {
-        ids = (1..=13).collect();
+        ids = (1..=APPLICATIONS as u16).collect();
         numbers.shuffle(&mut ids);
     }
     // Lists that mostly add, mostly remove, or do both.
@@ -203,11 +204,11 @@ fn ta_id(numbers: &mut Numbers, hint: u16, earlier: &[u16]) -> u16 {
         },
         2 if !earlier.is_empty() => numbers.one_of(earlier),
         3 => {
-            let known = numbers.between(1, 13) as u16;
+            let known = numbers.between(1, APPLICATIONS) as u16;
             let random = numbers.word() as u16;
             let odd = [
                 0,
-                14,
+                APPLICATIONS as u16 + 1,
                 15,
                 16,
                 17,
@@ -220,7 +221,7 @@ fn ta_id(numbers: &mut Numbers, hint: u16, earlier: &[u16]) -> u16 {
             ];
             numbers.one_of(&odd)
         }
-        _ => numbers.between(1, 13) as u16,
+        _ => numbers.between(1, APPLICATIONS) as u16,
     }
 }
 

@@ -21,6 +21,7 @@ mod show;
 mod shrink;
 mod tally;
 mod value;
+mod widths;
 mod wire;
 
 use call::{Call, Seen};

@@ -2,6 +2,7 @@
 
 use crate::call::{Call, Said, Seen, Which};
 use crate::tally::Place::{self, Outside, Ready, Unsound};
+use crate::widths::APPLICATIONS;
 use crate::{records, rows};
 use second::{Answer, Fields};
 
@@ -120,12 +121,12 @@ fn of_limits(call: &Call, answer: &Answer, is: &Fields) -> Vec<&'static str> {
         return Vec::new();
     }
     let limits = &call.limits.of;
-    let all_0 = *limits == [0; 13];
+    let all_0 = *limits == [0; APPLICATIONS];
     let counts = rows::counts(&call.row);
     // What a session that opened has in common; places left are negative where
     // a count has passed its limit.
     let common = is.enabled & is.listed;
-    let left: Vec<(u8, i32)> = (0..13)
+    let left: Vec<(u8, i32)> = (0..APPLICATIONS)
         .filter(|bit| common >> bit & 1 == 1)
         .map(|bit| (limits[bit], counts[bit]))
         .map(|(limit, count)| (limit, i32::from(limit.min(64)) - i32::from(count)))

@@ -1,6 +1,7 @@
 //! Stored records, sound and not.
 
 use crate::numbers::Numbers;
+use crate::widths::{ALL_APPLICATIONS, ALL_KINDS, APPLICATIONS, KINDS};
 use second::Fields;
 
 pub const LENGTH: usize = 22;
@@ -52,23 +53,26 @@ pub fn fields(record: &[u8]) -> Fields {
 /// A set of applications: few, half of them or all.
 pub fn applications(numbers: &mut Numbers) -> u16 {
     let bits = match numbers.below(5) {
-        0 => 1 << numbers.below(13),
-        1 => 1 << numbers.below(13) | 1 << numbers.below(13),
+        0 => 1 << numbers.below(APPLICATIONS),
+        1 => 1 << numbers.below(APPLICATIONS) | 1 << numbers.below(APPLICATIONS),
         2 => numbers.word() & numbers.word(),
         3 => numbers.word(),
-        _ => numbers.one_of(&[0, 0x1FFF, 0x0FFF, 0x1FFE]),
+        _ => {
+            let all = u32::from(ALL_APPLICATIONS);
+            numbers.one_of(&[0, all, all >> 1, all - 1])
+        }
     };
-    bits as u16 & 0x1FFF
+    bits as u16 & ALL_APPLICATIONS
 }
 
 pub fn kinds(numbers: &mut Numbers) -> u16 {
     let bits = match numbers.below(4) {
         0 => 0,
-        1 => 1 << numbers.below(10),
-        2 => 0x3FF,
+        1 => 1 << numbers.below(KINDS),
+        2 => u32::from(ALL_KINDS),
         _ => numbers.word(),
     };
-    bits as u16 & 0x3FF
+    bits as u16 & ALL_KINDS
 }
 
 /// A 32-bit number, often one at the edge.
@@ -134,7 +138,7 @@ pub fn sound_session(numbers: &mut Numbers) -> Fields {
         }
         if flags & USES_TAC != 0 && numbers.chance(75) {
             fields.flags |= IN_FORCE;
-            let common = 1 << numbers.below(13);
+            let common = 1 << numbers.below(APPLICATIONS);
             fields.enabled |= common;
             fields.listed = if numbers.flag() {
                 // One in common and no more.
@@ -276,5 +280,5 @@ pub fn any_length(numbers: &mut Numbers) -> usize {
 
 /// The applications that matter to a session.
 pub fn hint(session: &Fields) -> u16 {
-    (session.enabled | session.listed) & 0x1FFF
+    (session.enabled | session.listed) & ALL_APPLICATIONS
 }

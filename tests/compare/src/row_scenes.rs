@@ -3,6 +3,7 @@
 
 use crate::call::{Call, Said, Seen, Which, ROW_EVENTS};
 use crate::numbers::Numbers;
+use crate::widths::{ALL_APPLICATIONS, LAST};
 use crate::{areas, records, rows, scenes};
 use second::{no_limits, Event, Fields, Limits};
 
@@ -151,7 +152,7 @@ fn event(numbers: &mut Numbers, call: Call, which: usize, session: &Fields, few:
     let hint = match numbers.below(4) {
         0 => records::hint(session),
         // What the session uses: without it there may be a mismatch.
-        1 => session.enabled & session.listed & 0x1FFF,
+        1 => session.enabled & session.listed & ALL_APPLICATIONS,
         _ => few,
     };
     let ta_id = scenes::ta_id_to_change(numbers, hint);
@@ -251,7 +252,7 @@ fn row_count(numbers: &mut Numbers, row: Vec<Fields>, few: u16) -> Call {
 fn set_limit(numbers: &mut Numbers, row: &[Fields], few: u16, limits: Limits) -> Call {
     let ta_id = scenes::ta_id_to_change(numbers, few);
     let count = match ta_id {
-        1..=13 => rows::counts(row)[ta_id as usize - 1],
+        1..=LAST => rows::counts(row)[ta_id as usize - 1],
         _ => 0,
     };
     Call {

@@ -3,12 +3,11 @@
 
 use crate::numbers::Numbers;
 use crate::records::{self, IN_FORCE, OPEN, READY, USES_TAC};
+use crate::widths::APPLICATIONS;
 use second::{Fields, Limits};
 
 /// The most sessions that a row may have.
 pub const LONGEST: usize = 64;
-
-const APPLICATIONS: usize = 13;
 
 /// A set of one to three applications.
 pub fn few(numbers: &mut Numbers) -> u16 {

@@ -4,6 +4,7 @@
 use crate::call::{Call, Said, Seen, Which};
 use crate::numbers::Numbers;
 use crate::row_scenes::{self, RowWalk};
+use crate::widths::{APPLICATIONS, KINDS, LAST};
 use crate::{areas, records};
 use second::Fields;
 
@@ -85,10 +86,10 @@ fn creation(numbers: &mut Numbers) -> Call {
     let mut protected_kinds = u32::from(records::kinds(numbers));
     let mut enabled = u32::from(records::applications(numbers));
     if numbers.chance(12) {
-        protected_kinds = beyond(numbers, protected_kinds, 10);
+        protected_kinds = beyond(numbers, protected_kinds, KINDS);
     }
     if numbers.chance(12) {
-        enabled = beyond(numbers, enabled, 13);
+        enabled = beyond(numbers, enabled, APPLICATIONS);
     }
     let record = numbers.octets(length);
     Call {
@@ -185,15 +186,15 @@ pub fn mostly_good(numbers: &mut Numbers, hint: u16) -> Vec<u8> {
 
 /// A TA-Id, often one that matters to the session, now and then none at all.
 pub fn ta_id_to_change(numbers: &mut Numbers, hint: u16) -> u32 {
-    let known = numbers.between(1, 13) as u32;
+    let known = numbers.between(1, APPLICATIONS) as u32;
     match numbers.weighted(&[45, 40, 15]) {
         0 if hint != 0 => loop {
-            let bit = numbers.below(13);
+            let bit = numbers.below(APPLICATIONS);
             if hint >> bit & 1 == 1 {
                 break bit as u32 + 1;
             }
         },
-        2 => out_of_range(numbers, known, 14),
+        2 => out_of_range(numbers, known, LAST + 1),
         _ => known,
     }
 }
@@ -201,7 +202,7 @@ pub fn ta_id_to_change(numbers: &mut Numbers, hint: u16) -> u32 {
 /// More often a change than not.
 pub fn on_or_off(numbers: &mut Numbers, session: &Fields, ta_id: u32) -> bool {
     match ta_id {
-        1..=13 if numbers.chance(60) => session.enabled >> (ta_id - 1) & 1 == 0,
+        1..=LAST if numbers.chance(60) => session.enabled >> (ta_id - 1) & 1 == 0,
         _ => numbers.flag(),
     }
 }

@@ -22,6 +22,7 @@ pub enum Place {
     Gone,
 }
 
+use crate::widths::ALL_KINDS;
 use Place::{Gone, Held, Open, Outside, Ready, Unsound};
 
 pub const STATES: [Place; 4] = [Ready, Open, Held, Gone];
@@ -171,7 +172,7 @@ impl Tally {
             }
             Said::Kinds(answer) if answer.refusal == 0 => met(What::Note(match answer.kinds {
                 0 => "no kinds",
-                0x3FF => "all kinds",
+                ALL_KINDS => "all kinds",
                 _ => "some kinds",
             })),
             Said::Retry(answer) if answer.refusal == 0 => met(What::Note(match answer.interval {
