@@ -271,7 +271,18 @@ module _ (s : Session) (e m : ℕ) (h : Within (s .enabled) e) (r : Sound s) (r�
       (greets number woken (greeted-sound s r number woken (w .small) (w .as-open) (λ z. never z (w .not-held)) (w .as-gone ∙ q)) (λ z. w .as-open ∙ z)))
       (λ _. stays s e m h ev))))
 
--- ---- Local change: what it makes of one session
+-- ---- Local change: what is to be written, in a session and in one with other applications enabled. It is refused in both, sent in both or done in both
+writing-along : (R : Decision → Decision → Type 0) (s : Session) (e m : ℕ) (t t′ : Session) (room : ℕ) → ((n : ℕ) → R (Refused n) (Refused n))
+    → ((isOpen s && usesTac s) ≡ true → changeLength ≤ room → R (Send t changeLength) (Send t′ changeLength))
+    → ((isOpen s && usesTac s) ≡ false → R (Done t) (Done t′)) → R (writing s t room) (writing (withOtherEnabled s e m) t′ room)
+unfolding writing
+writing-along R s e m t t′ room refused sent set =
+    pick-both R (isOpen s && usesTac s)
+    (λ o. pick-both R (dynamic s)
+    (λ _. pick-both R (leb changeLength room) (λ q. sent o (leb-true changeLength room q)) (λ _. refused noRoom)) (λ _. refused peerNotDynamic))
+    set
+
+-- ---- what it makes of one session
 -- where nothing is to be written, negotiation is not in force
 unwritten-common : (s : Session) → Sound s → (n : ℕ) (on : Bool) → (isOpen s && usesTac s) ≡ false → nothingCommon (changed s n on) ≡ false
 unfolding nothingCommon
@@ -293,19 +304,15 @@ module _ (s : Session) (r : Sound s) (n : ℕ) (on : Bool) (room : ℕ) (known :
       }
 
   writing-facts : Facts s (LocalChange n on room) (writing s (changed s n on) room)
-  unfolding writing heldToReady
+  unfolding heldToReady
   writing-facts =
-      by-test F
-      (λ o. by-test F
-      (λ _. by-test F (λ q. (changes, record { is-open = and-first (isOpen s) _ o; long = refl; enough = leb-true changeLength room q })) (λ _. tt)) (λ _. tt))
+      writing-along (λ c _. Facts s (LocalChange n on room) c) s (s .enabled) (s .next) (changed s n on) (changed s n on) room (λ _. tt)
+      (λ o q. (changes, record { is-open = and-first (isOpen s) _ o; long = refl; enough = q }))
       (λ o. record {
         makes = changes;
         common = unwritten-common s r n on o;
         still = record { shut = λ z. to-ready (s .state) (r .state) .as-open ∙ z; listed = λ _ _. refl; force = λ _ _. refl };
       })
-    where
-      F : Decision → Type 0
-      F = Facts s (LocalChange n on room)
 
 -- ---- and beside one that enables more. Eight cases, by what it asks and by which of the two has it so already; two of them cannot be
 -- an Open session is not Held, and what is Open after it was Open before
@@ -344,53 +351,36 @@ module _ (s : Session) (e m : ℕ) (h : Within (s .enabled) e) (n room : ℕ) wh
 
   both-change : (on : Bool) → Within (switched applicationCount (s .enabled) n on) (switched applicationCount e n on)
       → Pair (writing s (changed s n on) room) (writing other (changed other n on) room)
-  unfolding writing heldToReady
+  unfolding heldToReady
   both-change on w =
       let t = changed s n on in
       let e′ = switched applicationCount e n on in
-      pick-both Pair (isOpen s && usesTac s)
-      (λ _. pick-both Pair (dynamic s)
-      (λ _. pick-both Pair (leb changeLength room) (λ _. send-follows s other t e′ m w changeLength) (λ _. same-refused noRoom)) (λ _. same-refused peerNotDynamic))
-      (λ _. done-follows s other t e′ m w)
+      writing-along Pair s e m t (changed other n on) room same-refused (λ _ _. send-follows s other t e′ m w changeLength) (λ _. done-follows s other t e′ m w)
 
   -- only the second changed, which was and stays Open
   second-changes : Sound s → Within (s .enabled) (switched applicationCount e n false) → Pair Unchanged (writing other (changed other n false) room)
-  unfolding writing settled answered heldToReady nothingCommon
+  unfolding settled answered heldToReady nothingCommon
   second-changes r w k =
-      by-test P
-      (λ _. by-test P
-      (λ _. by-test P
-      (λ _. by-test A (λ x. never x (common-more s (switched applicationCount e n false) m w (sound-common s r))) (λ _. stayed _))
-      (λ _. alike s e m h))
-      (λ _. alike s e m h))
-      (λ _. stayed m)
+      let t′ = changed other n false in
+      writing-along (λ c _. Like (settled other c)) other e m t′ t′ room (λ _. alike s e m h)
+      (λ _ _. by-test Like (λ x. never x (common-more s (switched applicationCount e n false) m w (sound-common s r))) (λ _. stayed _)) (λ _. stayed m)
     where
-      A : After → Type 0
-      A z = Alike s (z .session)
-
-      P : Decision → Type 0
-      P c = A (settled other c)
+      Like : After → Type 0
+      Like z = Alike s (z .session)
 
       stayed : (next : ℕ) → Alike s (withOtherEnabled (changed s n false) (switched applicationCount e n false) next)
       stayed next = record { same-else = rw (open-stays s k) refl; more = w }
 
   -- only the first changed
   first-changes : Within (switched applicationCount (s .enabled) n true) e → Pair (writing s (changed s n true) room) Unchanged
-  unfolding writing settled answered heldToReady
+  unfolding settled answered heldToReady
   first-changes w =
-      by-test P
-      (λ _. by-test P
-      (λ _. by-test P
-      (λ _. by-test A (λ _ k. never k (mismatched-shut (changed s n true))) (λ _ k. stayed _ k))
-      (λ _ k. alike s e m h))
-      (λ _ k. alike s e m h))
-      (λ _ k. stayed (s .next) k)
+      let t = changed s n true in
+      writing-along (λ c _. Like (settled s c)) s (s .enabled) (s .next) t t room (λ _ _. alike s e m h)
+      (λ _ _. by-test Like (λ _ k. never k (mismatched-shut t)) (λ _ k. stayed _ k)) (λ _ k. stayed (s .next) k)
     where
-      A : After → Type 0
-      A z = Follows z (unchanged other)
-
-      P : Decision → Type 0
-      P c = A (settled s c)
+      Like : After → Type 0
+      Like z = Follows z (unchanged other)
 
       stayed : (next : ℕ) → isOpen (changed s n true) ≡ true → Alike (withNext (changed s n true) next) other
       stayed next k = record { same-else = rw (open-stays s (was-open s k)) refl; more = w }

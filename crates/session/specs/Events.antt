@@ -9,6 +9,7 @@ use Rattle.sets.specs.Set.{one, union, minus}
 use Rattle.refusals.specs.Refusals.{notRefused, outOfRange, wrongState, noRoom, peerNotDynamic, notSound}
 use Rattle.kinds.specs.Kinds.{knownApplication, isIn}
 use Rattle.area.specs.declared.Reading.{Reading}
+use Rattle.area.specs.Found.{tacStood}
 use Rattle.area.specs.Area.{readArea, part}
 use Rattle.lists.specs.Tac.{sBit, tacList}
 use Rattle.lists.specs.Sac.{sacList}
@@ -33,7 +34,7 @@ unlessRefused r otherwise = pick (eqb (r .refusal) notRefused) otherwise (Refuse
 -- ---- Initialization (Ready only)
 -- "the session uses TAC and the area holds one"
 abbrev pub takesTac : Session → Reading → Bool
-takesTac s r = usesTac s && ltb 0 (r .tac .len)
+takesTac s r = usesTac s && tacStood r
 
 -- "each opening begins with nothing disabled"; negotiation is in force where TAC is taken, "otherwise the session opens as RFC 5036 has it"
 unfoldable pub afterInitialization : Session → List ℕ → Reading → Session
