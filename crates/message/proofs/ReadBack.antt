@@ -1,11 +1,9 @@
 -- What we write is read as we meant it: the last 9 octets of a message are an area with one TAC and nothing else, whose S is 1 and whose list
 -- switches exactly that application on or off. The octets that do not depend on the application are computed. Assumes nothing.
-use Prim.Native.Nat.{ℕ, _/_, _%_, _<_}
+use Prim.Native.Nat.{ℕ, _<_}
 use mathlib.Core.Path.{_≡_, refl, ap₂}
-use mathlib.Core.List.{List, [], _∷_}
 use mathlib.Core.Bool.{Bool, true, false}
 use lib.ListN.{length, drop}
-use lib.Dec.{leb}
 use Rattle.choice.specs.Pick.{pick}
 use Rattle.octets.proofs.Numbers.{forth16, top-back}
 use Rattle.sets.specs.Set.{switched}

@@ -27,7 +27,7 @@ use Rattle.session.specs.Session.{isOpen, inForce, negotiated, nothingCommon, s
 use Rattle.session.specs.With.{mismatched}
 use Rattle.session.specs.Limits.{used, atLimit}
 use Rattle.session.specs.Decisions.{outcomeDone, outcomeAtLimit, answered, settled}
-use Rattle.session.specs.Events.{afterInitialization, onInitialization, Event, decision, step}
+use Rattle.session.specs.Events.{afterInitialization, onInitialization, Event, step}
 use Rattle.session.proofs.SoundMeans.{sound-means}
 use Rattle.session.proofs.Made.{mismatched-shut}
 use Rattle.session.proofs.Steps.{initialization-unlimited, away, away-facts, away-shut, away-session, away-answer}

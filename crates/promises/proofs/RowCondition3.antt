@@ -12,7 +12,6 @@ use native.Mathlib.Omega.{arith}
 use borrow.Author.Tests.{eqb-true}
 use Rattle.choice.specs.Pick.{pick}
 use Rattle.choice.proofs.Branch.{taken, pick-both}
-use Rattle.sets.specs.Set.{Within}
 use Rattle.sets.proofs.Chosen.{chosen-same}
 use Rattle.session.specs.declared.Session.{Session}
 use Rattle.session.specs.declared.After.{After}

@@ -1,6 +1,6 @@
 -- What we write is read as we meant it. A message was written only for a known application and with room for it, so its last 9 octets are the TAC of one
 -- element; and reading that, the other end switches that application in its list and touches nothing else. Assumes nothing.
-use Prim.Native.Nat.{ℕ, _-_, _<_, _≤_}
+use Prim.Native.Nat.{ℕ, _-_, _≤_}
 use mathlib.Core.Path.{_≡_, refl, sym, ap, ap₂, _∙_}
 use mathlib.Core.Bool.{Bool, true, false, _&&_}
 use mathlib.Core.List.{List}

@@ -4,7 +4,6 @@ use Prim.Native.Nat.{ℕ}
 use mathlib.Core.Path.{_≡_}
 use mathlib.Core.Bool.{true, false}
 use mathlib.Core.List.{List, [], _∷_, _++_}
-use lib.ListN.{length}
 use Rattle.kinds.specs.Kinds.{allApplications, isIn}
 use Rattle.area.specs.Area.{readArea}
 use Rattle.session.specs.declared.Session.{Session}

@@ -10,7 +10,7 @@
 --     lands-in                 the result of a call is stored in a local that held nothing
 --     retold                   what a local holds, written another way
 -- The laws over all locals are inductions on their list. Assumes `Given`.
-use mathlib.Core.Path.{_≡_, refl, sym, ap, subst}
+use mathlib.Core.Path.{_≡_, sym, ap, subst}
 use Prim.Native.Nat.{ℕ, zero, suc, _+_, _-_}
 use mathlib.Core.Bool.{Bool, true, false}
 use mathlib.Core.Option.{Option, none, some as just}

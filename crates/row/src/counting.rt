@@ -1,6 +1,6 @@
 // One pass over a row, session by session.
 ghost use mathlib.Core.Path.{_≡_};
-ghost use Prim.Native.Nat.{_≤_, _<_};
+ghost use Prim.Native.Nat.{_<_};
 ghost use Rattle.kinds.specs.Kinds.{applicationCount};
 ghost use Rattle.row.specs.Counting.{emptyTally, more, counted, tally, belowLimitBy, countBy};
 use crate::APPLICATIONS;

@@ -1,7 +1,7 @@
 -- Two sessions alike but for the enabled applications, the first's within the second's, and the next message number. The number is outside "alike", since
 -- a change may be written by one and be Unchanged in the other. Whatever an event is decided to come to in the first and, with more enabled, in the second:
 -- if the first is Open after it, the two are alike after it. Assumes nothing.
-use Prim.Native.Nat.{ℕ, _+_, _%_, _^_}
+use Prim.Native.Nat.{ℕ}
 use mathlib.Core.Path.{_≡_, refl, sym, ap, _∙_, subst}
 use mathlib.Core.Bool.{Bool, true, false, _&&_, true≢false}
 use Rattle.choice.specs.Pick.{pick}
@@ -11,9 +11,9 @@ use Rattle.sets.proofs.Subsets.{within-common, lacks-empty, empty-lacks}
 use Rattle.session.specs.declared.Session.{Session}
 use Rattle.session.specs.declared.After.{After}
 use Rattle.session.specs.Session.{isOpen, inForce, negotiated, nothingCommon}
-use Rattle.session.specs.With.{mismatched, withNextNumber, withOtherEnabled}
+use Rattle.session.specs.With.{withOtherEnabled}
 use Rattle.session.specs.Limits.{atLimit}
-use Rattle.session.specs.Decisions.{answered, Decision, Refused, Unchanged, Done, AsMismatch, Negotiate, Admit, Send, settled}
+use Rattle.session.specs.Decisions.{answered, Done, AsMismatch, Negotiate, Admit, Send, settled}
 use Rattle.session.proofs.Made.{never, mismatched-shut}
 
 pub record Alike (s t : Session) : Type 0 where

@@ -1,11 +1,11 @@
 -- What an event comes to, once for every event: along the tests of its definition, the facts that hold of what it is decided to come to, and that it follows
 -- when more applications are enabled. Soundness, numbers of 32 bits, limits, what is written and condition 3 are read off here and go through no test again;
 -- a new event proves its view and nothing else. Of one session it is the view of the session beside itself. Assumes nothing.
-use Prim.Native.Nat.{ℕ, _+_, _-_, _%_, _^_, _<_, _≤_}
+use Prim.Native.Nat.{ℕ, _-_, _^_, _<_, _≤_}
 use mathlib.Core.Path.{_≡_, refl, sym, ap, _∙_, subst}
 use mathlib.Core.Bool.{Bool, true, false, not, _&&_, _||_, false≢true}
 use mathlib.Core.List.{List}
-use lib.Dec.{eqb, ltb, leb, lit<, lit≤}
+use lib.Dec.{eqb, ltb, leb, lit≤}
 use borrow.Author.Tests.{eqb-true, leb-true}
 use Rattle.choice.specs.Pick.{pick}
 use Rattle.choice.proofs.Branch.{by-test, pick-both, taken}
@@ -13,9 +13,8 @@ use Rattle.choice.proofs.Tests.{and-first, and-second, and-both}
 use Rattle.sets.specs.Set.{has, one, empty, Within, switched}
 use Rattle.sets.proofs.Flags as flag
 use Rattle.sets.proofs.Switches.{within-both, within-first, within-second}
-use Rattle.refusals.specs.Refusals.{notRefused, outOfRange, wrongState, noRoom, peerNotDynamic, notSound}
+use Rattle.refusals.specs.Refusals.{notRefused, outOfRange, wrongState, noRoom, peerNotDynamic}
 use Rattle.kinds.specs.Kinds.{applicationCount, knownApplication, isIn}
-use Rattle.area.specs.declared.Reading.{Reading}
 use Rattle.area.specs.Area.{readArea}
 use Rattle.message.specs.Message.{changeLength}
 use Rattle.session.specs.declared.Session.{Session}
@@ -25,7 +24,7 @@ use Rattle.session.specs.With.{withNext, withOtherEnabled, backToReady, 
 use Rattle.session.specs.Decisions.{answered, unchanged, Decision, Refused, Unchanged, Done, AsMismatch, Negotiate, Admit, Send, settled}
 use Rattle.session.specs.Events.{checked, afterInitialization, onInitialization, afterCapability, flagsAfter, listAfter, onCapability, same, already, writing, onLocalChange, onMismatch, onHello, onClosed, onUnknown, Event, Initialization, Capability, LocalChange, Mismatch, Hello, Closed, Unknown, Numbered, decision}
 use Rattle.session.proofs.SoundMeans.{means-sound}
-use Rattle.session.proofs.Made.{never, Basic, basic, back-sound, mismatched-shut, ToReady, to-ready, gone-shut, greeted-sound, sound-common, changed-basic, changed-sound, opened-uses, opened-basic, opened-sound, told-uses, told-basic, told-sound}
+use Rattle.session.proofs.Made.{never, Basic, basic, back-sound, mismatched-shut, to-ready, gone-shut, greeted-sound, sound-common, changed-basic, changed-sound, opened-uses, opened-basic, opened-sound, told-uses, told-basic, told-sound}
 use Rattle.session.proofs.Alike.{Alike, alike, Follows, common-more, mismatch-follows, done-follows, negotiate-follows, admit-follows, send-follows}
 
 -- ---- what is known of a session that an event makes

@@ -5,7 +5,6 @@ use Rattle.choice.specs.Pick.{pick}
 use Rattle.sets.specs.Set.{one, union, below}
 use Rattle.refusals.specs.Refusals.{notRefused, outOfRange}
 use Rattle.kinds.specs.Kinds.{applicationCount, kindCount}
-use Rattle.session.specs.declared.Session.{Session}
 use Rattle.session.specs.declared.Created.{Created}
 use Rattle.session.specs.declared.Created.the-variants.{Fresh, Refused}
 use Rattle.session.specs.Session.{initiatingBit, activeBit, usesTacBit, dropsBit}

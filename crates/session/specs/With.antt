@@ -1,8 +1,6 @@
 -- Sessions with other fields. A session is put together here and nowhere else in specs/, so a new field is a word in these lines. Assumes nothing.
 use Prim.Native.Nat.{ℕ, _+_, _%_, _^_}
-use mathlib.Core.Bool.{Bool, true}
-use mathlib.Core.List.{List}
-use lib.Dec.{eqb}
+use mathlib.Core.Bool.{Bool}
 use Rattle.choice.specs.Pick.{pick}
 use Rattle.sets.specs.Set.{one, union, minus, switched}
 use Rattle.kinds.specs.Kinds.{applicationCount}

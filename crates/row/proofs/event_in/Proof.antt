@@ -1,5 +1,5 @@
 -- `row::event_in` meets its contract: the event is decided, and then the room has the message exactly where one was written. Assumes nothing.
-use mathlib.Core.Path.{sym, _∙_}
+use mathlib.Core.Path.{sym}
 use Rattle.row.specs.Counting.{roomBy}
 use borrow.Author.Needs.{needs}
 use Rattle.row.proofs.event_in.Statement.{statement}

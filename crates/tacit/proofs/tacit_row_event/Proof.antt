@@ -52,7 +52,6 @@ use denote.Exit.{yes}
 use Rattle.session.specs.declared.Session.{Session}
 use Rattle.session.specs.declared.Answer.{Answer}
 use Rattle.session.specs.declared.After.{After}
-use Rattle.session.specs.Decisions.{refused}
 use Rattle.session.specs.With.{noSession}
 use Rattle.session.proofs.Session as T
 use Rattle.session.proofs.Session.Laws as T′
