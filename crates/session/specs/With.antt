@@ -1,4 +1,4 @@
--- Sessions with other fields. A session is put together here and nowhere else in specs/, so a new field is a word in these lines. Assumes nothing.
+-- Sessions with other fields. A session is put together here, and where a record is read, and nowhere else in specs/: a new field is a word in these lines. Assumes nothing.
 use Prim.Native.Nat.{ℕ, _+_, _%_, _^_}
 use mathlib.Core.Bool.{Bool}
 use Rattle.choice.specs.Pick.{pick}
