@@ -3,6 +3,7 @@ pub mod Runs
 pub mod Condition3
 pub mod Written
 pub mod Records
+pub mod Calls
 pub mod Rows
 pub mod Limits
 pub mod RowCondition3

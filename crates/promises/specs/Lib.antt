@@ -3,6 +3,7 @@ pub mod Words
 pub mod Condition3
 pub mod Written
 pub mod Records
+pub mod Calls
 pub mod Rows
 pub mod RowCondition3
 pub mod Examples
