@@ -7,3 +7,6 @@ pub mod Calls
 pub mod Rows
 pub mod Limits
 pub mod RowCondition3
+pub mod RowCalls
+pub mod RowRecords
+pub mod Creation

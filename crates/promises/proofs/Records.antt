@@ -12,11 +12,10 @@ use borrow.Author.Tests.{eqb-true, eq-eqb, ne-eqb}
 use Rattle.choice.proofs.Branch.{by-test, taken, left}
 use Rattle.session.specs.declared.Session.{Session}
 use Rattle.session.specs.declared.After.{After}
-use Rattle.session.specs.Session.{sound, Sound}
+use Rattle.session.specs.Session.{sound, Sound, Narrow}
 use Rattle.session.specs.With.{noSession}
 use Rattle.session.specs.Events.{Event, Numbered, step, run}
 use Rattle.session.proofs.SoundMeans.{sound-means, means-sound}
-use Rattle.session.proofs.View.{Narrow}
 use Rattle.session.proofs.Steps.{step-sound, step-narrow}
 use Rattle.record.specs.Record.{recordLength, encoded, storedIn, decoded}
 use Rattle.record.specs.Carried.{recordAfter}

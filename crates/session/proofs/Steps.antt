@@ -18,14 +18,14 @@ use Rattle.kinds.specs.Kinds.{applicationCount, allApplications}
 use Rattle.area.specs.Area.{readArea}
 use Rattle.session.specs.declared.Session.{Session}
 use Rattle.session.specs.declared.After.{After}
-use Rattle.session.specs.Session.{isReady, isOpen, inForce, negotiated, nothingCommon, sound, Sound, permitted}
+use Rattle.session.specs.Session.{isReady, isOpen, inForce, negotiated, nothingCommon, sound, Sound, Narrow, permitted}
 use Rattle.session.specs.With.{mismatched}
 use Rattle.session.specs.Limits.{atLimit}
 use Rattle.session.specs.Decisions.{outcomeAtLimit, refused, answered, Decision, Refused, Unchanged, Done, AsMismatch, Negotiate, Admit, Send, settled}
 use Rattle.session.specs.Events.{checked, unlessRefused, afterInitialization, onInitialization, onMismatch, Event, Initialization, Mismatch, Numbered, decision, step}
 use Rattle.session.proofs.SoundMeans.{sound-means, means-sound}
 use Rattle.session.proofs.Made.{ready-shut, mismatched-sound, mismatched-shut, next-sound, opened-mismatched}
-use Rattle.session.proofs.View.{Narrow, admits-opens, Facts, facts-of}
+use Rattle.session.proofs.View.{admits-opens, Facts, facts-of}
 
 -- ---- sound
 module _ (s : Session) (r : Sound s) where

@@ -19,7 +19,7 @@ use Rattle.area.specs.Area.{readArea}
 use Rattle.message.specs.Message.{changeLength}
 use Rattle.session.specs.declared.Session.{Session}
 use Rattle.session.specs.declared.After.{After}
-use Rattle.session.specs.Session.{stateReady, stateOpen, isReady, isOpen, isGone, usesTac, inForce, dynamic, recorded, usesTacBit, inForceBit, recordedBit, clearedOutOfOpen, negotiated, nothingCommon, Sound}
+use Rattle.session.specs.Session.{stateReady, stateOpen, isReady, isOpen, isGone, usesTac, inForce, dynamic, recorded, usesTacBit, inForceBit, recordedBit, clearedOutOfOpen, negotiated, nothingCommon, Sound, Narrow}
 use Rattle.session.specs.With.{withNext, withOtherEnabled, backToReady, heldToReady, greeted, changed}
 use Rattle.session.specs.Decisions.{answered, unchanged, Decision, Refused, Unchanged, Done, AsMismatch, Negotiate, Admit, Send, settled}
 use Rattle.session.specs.Events.{checked, afterInitialization, onInitialization, afterCapability, flagsAfter, listAfter, onCapability, same, already, writing, onLocalChange, onMismatch, onHello, onClosed, onUnknown, Event, Initialization, Capability, LocalChange, Mismatch, Hello, Closed, Unknown, Numbered, decision}
@@ -28,11 +28,6 @@ use Rattle.session.proofs.Made.{never, Basic, basic, back-sound, mismat
 use Rattle.session.proofs.Alike.{Alike, alike, Follows, common-more, mismatch-follows, done-follows, negotiate-follows, admit-follows, send-follows}
 
 -- ---- what is known of a session that an event makes
--- the two numbers of 32 bits are such
-pub record Narrow (s : Session) : Type 0 where
-  pub hello : s .hello < 2 ^ 32
-  pub next : s .next < 2 ^ 32
-
 -- an application was changed, which was not so already
 pub record Changes (s : Session) (n : ℕ) (on : Bool) (t : Session) : Type 0 where
   pub known : knownApplication n ≡ true
