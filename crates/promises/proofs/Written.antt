@@ -27,9 +27,10 @@ use Rattle.session.specs.declared.After.{After}
 use Rattle.session.specs.Session.{usesTac, inForceBit, flagCount, sound}
 use Rattle.session.specs.With.{withFlags, withListed, withListing}
 use Rattle.session.specs.Decisions.{answered, Decision, Refused, Unchanged, Done, AsMismatch, Negotiate, Admit, Send, settled}
-use Rattle.session.specs.Events.{unlessRefused, takesTac, flagsAfter, listAfter, afterCapability, onCapability, onLocalChange, Event, Capability, LocalChange, step, run, roomAfter}
+use Rattle.session.specs.Events.{unlessRefused, takesTac, flagsAfter, listAfter, afterCapability, onCapability, Event, Capability, LocalChange, decision, step, run, roomAfter}
 use Rattle.session.proofs.SoundMeans.{sound-means}
 use Rattle.session.proofs.View.{Facts, facts-of}
+use Rattle.session.proofs.Steps.{unsound-refused}
 use Rattle.promises.specs.Written.{OtherEnd, ReadAsMeant}
 
 -- ---- where a message was written: the event was sent, which says that the application is known and that there was room
@@ -53,15 +54,14 @@ module _ (s : Session) (n : ℕ) (on : Bool) (room : ℕ) where
   tells (Negotiate t) f = by-test Tells (λ _ e. absurd (omega arith)) (λ _ e. absurd (omega arith))
   tells (Admit t belowLimit) f = absurd (f .1)
   tells (Send t written) f =
-      by-test Tells (λ _ e. absurd (omega arith)) (λ _ _. record { known = f .0 .enabling .known; enough = f .1 .enough })
+      by-test Tells (λ _ e. absurd (omega arith)) (λ _ _. record { known = f .0 .makes .enabling .known; enough = f .1 .enough })
 
   wrote : step s change .answer .written ≡ changeLength → Wrote n room
-  unfolding onLocalChange settled
   wrote = go (sound s) refl
     where
       go : (x : Bool) → sound s ≡ x → step s change .answer .written ≡ changeLength → Wrote n room
-      go true h e = tells (onLocalChange s n on room) (facts-of s (sound-means s h) change) e
-      go false h e = absurd (omega (arith, sym (ap (λ (c : Decision). settled s c .answer .written) (left _ _ h)) ∙ e))
+      go true h e = tells (decision s change) (facts-of s (sound-means s h) change) e
+      go false h e = absurd (omega (arith, sym (ap (λ (a : After). a .answer .written) (unsound-refused s change h)) ∙ e))
 
 -- its last 9 octets are the TAC
 area-of : (s : Session) (n : ℕ) (on : Bool) (room : List ℕ) → step s (LocalChange n on (length room)) .answer .written ≡ changeLength
