@@ -340,7 +340,7 @@ unfolding heldToReady
 was-open s = by-test (λ (k : ℕ). eqb k stateOpen ≡ true → isOpen s ≡ true) (λ _ z. absurd (false≢true z)) (λ _ z. z)
 
 -- in the set, with more in it
-in-more : (a b n : ℕ) → Within a b → isIn a n ≡ true → isIn b n ≡ true
+pub in-more : (a b n : ℕ) → Within a b → isIn a n ≡ true → isIn b n ≡ true
 unfolding isIn
 in-more a b n h e = and-both _ _ (and-first (knownApplication n) _ e) (h (n - 1) (and-second (knownApplication n) _ e))
 
