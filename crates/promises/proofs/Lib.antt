@@ -10,3 +10,4 @@ pub mod RowCondition3
 pub mod RowCalls
 pub mod RowRecords
 pub mod Creation
+pub mod Determined
