@@ -6,6 +6,7 @@ use Rattle.session.proofs.Session.new.Reads as new
 use Rattle.session.proofs.Session.sound.Reads as sound
 use Rattle.session.proofs.Session.permitted_kinds.Reads as permitted-kinds
 use Rattle.session.proofs.Session.permission.Reads as permission
+use Rattle.session.proofs.Session.why_not.Reads as why-not
 use Rattle.session.proofs.Session.retry_interval.Reads as retry-interval
 use Rattle.session.proofs.Session.initialization.Reads as initialization
 use Rattle.session.proofs.Session.used.Reads as used
@@ -29,6 +30,9 @@ permitted-kinds-determined = by-equation _
 
 pub permission-determined : Determined (permission.Post tt)
 permission-determined = by-equation _
+
+pub why-not-determined : Determined (why-not.Post tt)
+why-not-determined = by-equation _
 
 pub retry-interval-determined : Determined (retry-interval.Post tt)
 retry-interval-determined = by-equation _
