@@ -20,6 +20,7 @@ use Rattle.tacit.proofs.tacit_hello.Reads as hello
 use Rattle.tacit.proofs.tacit_closed.Reads as closed
 use Rattle.tacit.proofs.tacit_permitted.Reads as permitted
 use Rattle.tacit.proofs.tacit_permitted_kinds.Reads as permitted-kinds
+use Rattle.tacit.proofs.tacit_why_not.Reads as why-not
 use Rattle.tacit.proofs.tacit_retry_interval.Reads as retry-interval
 use Rattle.tacit.proofs.tacit_sound.Reads as sound
 use Rattle.tacit.proofs.tacit_load.Reads as load
@@ -38,6 +39,9 @@ permitted-determined κs = by-equation _
 
 pub permitted-kinds-determined : (κs : _) → Determined (permitted-kinds.Post κs)
 permitted-kinds-determined κs = by-equation _
+
+pub why-not-determined : (κs : _) → Determined (why-not.Post κs)
+why-not-determined κs = by-equation _
 
 pub retry-interval-determined : (κs : _) → Determined (retry-interval.Post κs)
 retry-interval-determined κs = by-equation _
