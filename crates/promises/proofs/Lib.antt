@@ -6,3 +6,4 @@ pub mod Records
 pub mod Rows
 pub mod Limits
 pub mod RowCondition3
+pub mod Why

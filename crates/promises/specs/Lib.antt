@@ -5,6 +5,7 @@ pub mod Written
 pub mod Records
 pub mod Rows
 pub mod RowCondition3
+pub mod Why
 pub mod Examples
 pub mod RowExamples
 pub mod Promises

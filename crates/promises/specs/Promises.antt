@@ -7,6 +7,7 @@ use Rattle.promises.specs.Written.{ReadAsMeant}
 use Rattle.promises.specs.Records.{RecordsFollow}
 use Rattle.promises.specs.Rows.{SoundOverRows, OthersStay, RowRefusedIsNothing, CountsFollow, LimitIsMismatch, LimitsDecide, BaseWhereNoLimitBinds, NoLimitBindsUnset}
 use Rattle.promises.specs.RowCondition3.{RowCondition3}
+use Rattle.promises.specs.Why.{WhyNot}
 use Rattle.promises.specs.Examples.{Examples, WhyItStops, WhyAtThatMoment}
 use Rattle.promises.specs.RowExamples.{RowExamples, WhyTheOneSession}
 
@@ -30,6 +31,7 @@ pub record Promises : Type 0 where
   pub base-where-no-limit-binds : BaseWhereNoLimitBinds
   pub no-limit-binds-unset : NoLimitBindsUnset
   pub row-condition-3 : RowCondition3
+  pub why-not : WhyNot
   pub examples : Examples
   pub why-it-stops : WhyItStops
   pub why-at-that-moment : WhyAtThatMoment

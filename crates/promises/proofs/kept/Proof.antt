@@ -7,6 +7,7 @@ use Rattle.promises.proofs.Records.{records-follow}
 use Rattle.promises.proofs.Rows.{sound-over-rows, others-stay, row-refused-is-nothing, counts-follow}
 use Rattle.promises.proofs.Limits.{limit-is-mismatch, limits-decide, base-where-no-limit-binds, no-limit-binds-unset}
 use Rattle.promises.proofs.RowCondition3.{row-condition-3}
+use Rattle.promises.proofs.Why.{why-not}
 use Rattle.promises.proofs.Examples.{examples, why-it-stops, why-at-that-moment, row-examples, why-the-one-session}
 use Rattle.promises.proofs.kept.Statement.{statement}
 use Rattle.promises.proofs.kept.Tie as tie
@@ -33,6 +34,7 @@ returns c =
       base-where-no-limit-binds = base-where-no-limit-binds;
       no-limit-binds-unset = no-limit-binds-unset;
       row-condition-3 = row-condition-3;
+      why-not = why-not;
       examples = examples;
       why-it-stops = why-it-stops;
       why-at-that-moment = why-at-that-moment;
