@@ -712,7 +712,7 @@ static inline const char *tacit_why_text(uint32_t reason)
     case TACIT_NOT_OPEN: return "session not Open";
     case TACIT_DISABLED_BY_PEER: return "disabled by the peer";
     case TACIT_NOT_ENABLED: return "no application that opens it is enabled here";
-    case TACIT_NOT_LISTED: return "enabled here, but the peer lists no application that opens it";
+    case TACIT_NOT_LISTED: return "no enabled application that opens it is listed by the peer";
     default: return "unknown";
     }
 }
