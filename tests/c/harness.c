@@ -235,7 +235,7 @@ struct tacit_reason why_not(const struct record *record, uint32_t kind)
     uint8_t *lent = lend(RECORD, record->octets, record->length);
     struct tacit_reason answer = tacit_why_not(lent, record->length, kind);
     CHECK(same(lent, record->octets, record->length) && margin_kept(RECORD, record->length));
-    struct tacit_permission permission = permitted(record, kind);
+    struct tacit_permission permission = tacit_permitted(lent, record->length, kind);
     CHECK(answer.refusal == permission.refusal);
     CHECK(answer.reason <= TACIT_NOT_LISTED);
     if (answer.refusal != 0) {
@@ -243,7 +243,7 @@ struct tacit_reason why_not(const struct record *record, uint32_t kind)
         return answer;
     }
     CHECK((answer.reason == TACIT_PERMITTED) == (permission.permitted == 1));
-    CHECK((answer.reason == TACIT_NOT_OPEN) == (state(record) != TACIT_OPEN));
+    CHECK((answer.reason == TACIT_NOT_OPEN) == (record->octets[4] != TACIT_OPEN));
     if (answer.reason >= TACIT_NOT_ENABLED)
         CHECK((record->octets[5] & TACIT_FLAG_IN_FORCE) != 0);
     return answer;
