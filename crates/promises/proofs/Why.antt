@@ -17,6 +17,7 @@ use Rattle.session.specs.Session.{isOpen, inForce, negotiated, sound, Sound, Ne
 use Rattle.session.specs.Questions.{whyNotListed, unopened, why, whyNot}
 use Rattle.session.proofs.SoundMeans.{sound-means}
 use Rattle.session.proofs.PermittedMeans.{permitted-means, means-permitted}
+use Rattle.record.specs.Record.{decoded}
 use Rattle.promises.specs.Words.{Enables, Lists, Maps, Disables, Permits}
 use Rattle.promises.specs.Why.{NotOpen, NotEnabled, NotListed, FirstThatHolds, WhyNot}
 use Rattle.promises.proofs.Condition3.{in-set, at-place}
@@ -227,6 +228,7 @@ why-not =
     record {
       answered = λ s k h l. ap (λ (a : Reason). a .refusal) (not-refused s k h l);
       first = λ s k h l. subst (FirstThatHolds s k) (sym (ap (λ (a : Reason). a .reason) (not-refused s k h l))) (first s k (sound-means s h) l);
+      asked = λ κs a r s p h l. rw (p ∙ not-refused (decoded (a .0 .now)) (a .1 .0) h l) (refl, first (decoded (a .0 .now)) (a .1 .0) (sound-means (decoded (a .0 .now)) h) l);
       unsound = λ s k h. left _ _ h;
       no-kind = λ s k h l. taken _ _ h ∙ left _ _ (le-ltb k kindCount l);
     }

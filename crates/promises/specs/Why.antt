@@ -8,6 +8,8 @@ use Rattle.kinds.specs.Kinds.{kindCount}
 use Rattle.session.specs.declared.Session.{Session}
 use Rattle.session.specs.Session.{isOpen, inForce, sound}
 use Rattle.session.specs.Questions.{whyPermitted, whyNotOpen, whyDisabledByPeer, whyNotEnabled, whyNotListed, whyNot}
+use Rattle.record.specs.Record.{decoded}
+use Rattle.tacit.proofs.tacit_why_not.Reads as why-not
 use Rattle.promises.specs.Words.{Enables, Lists, Maps, Disables, Permits}
 
 -- ---- the sentences, in their order; the second is `Disables`
@@ -41,9 +43,13 @@ pub record FirstThatHolds (s : Session) (k reason : ℕ) : Type 0 where
   pub not-listed : (reason ≡ whyNotListed) ↔ ((NotOpen s → ⊥) × (Disables s k → ⊥) × (NotEnabled s k → ⊥) × NotListed s k)
   pub no-other : reason ≤ whyNotListed
 
--- of a sound session and a kind below 10, not refused; else 10 or 6, and no reason with it
+-- of a sound session and a kind below 10, not refused; else 10 or 6, and no reason with it. So answers the C call too, over its contract as the check
+-- reads it: κs are the lifetimes of what is lent, a what is handed in, r what is handed back and s what is left in what was lent
 pub record WhyNot : Type 0 where
   pub answered : (s : Session) (k : ℕ) → sound s ≡ true → k < kindCount → whyNot s k .refusal ≡ notRefused
   pub first : (s : Session) (k : ℕ) → sound s ≡ true → k < kindCount → FirstThatHolds s k (whyNot s k .reason)
   pub unsound : (s : Session) (k : ℕ) → sound s ≡ false → whyNot s k ≡ record { refusal = notSound; reason = 0 }
   pub no-kind : (s : Session) (k : ℕ) → sound s ≡ true → kindCount ≤ k → whyNot s k ≡ record { refusal = outOfRange; reason = 0 }
+  pub asked :
+      (κs : _) (a r s : _) → why-not.Post κs a r s → sound (decoded (a .0 .now)) ≡ true → a .1 .0 < kindCount
+      → (r .refusal ≡ notRefused) × FirstThatHolds (decoded (a .0 .now)) (a .1 .0) (r .reason)
