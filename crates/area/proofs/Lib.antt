@@ -1,5 +1,4 @@
 pub mod Turn
 pub mod Parts
 pub mod Tlvs
-pub mod Determined
 pub mod Examples

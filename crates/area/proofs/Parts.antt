@@ -11,16 +11,8 @@ use Rattle.choice.proofs.Branch.{by-test}
 use Rattle.area.specs.declared.Span.{Span}
 use Rattle.area.specs.declared.Reading.{Reading}
 use Rattle.area.specs.Found.{refused, nothingFound}
+use Rattle.area.specs.Parts.{Inside, Bare, PartsInside, NothingAfterRefusal}
 use Rattle.area.specs.Area.{areaMost, headLength, OurType, ourTypes, at16, takeTlv, passOther, among, byType, tlvAt, nextAt, readFrom, readArea}
-
--- a part that starts and ends within the area
-pub record Inside (a : List ℕ) (r : Reading) : Type 0 where
-  pub tac : r .tac .start + r .tac .len ≤ length a
-  pub sac : r .sac .start + r .sac .len ≤ length a
-
--- a reading that is refused has found nothing
-abbrev pub Bare : Reading → Type 0
-Bare r = (r .refusal ≡ notRefused → ⊥) → r ≡ refused (r .refusal)
 
 -- what holds of every refusal and of what is found with each of our types holds of the whole reading
 module _ (P : List ℕ → Reading → Type 0) (none : (a : List ℕ) (n : ℕ) → P a (refused n)) where
@@ -58,27 +50,29 @@ module _ (P : List ℕ → Reading → Type 0) (none : (a : List ℕ) (n : ℕ) 
     unfolding readArea
     whole a = by-test (P a) (λ _. none a areaTooLong) (λ _. from (length a) a 0 nothingFound (none a notRefused))
 
-none-inside : (a : List ℕ) (n : ℕ) → Inside a (refused n)
+abbrev Within-area : List ℕ → Reading → Type 0
+Within-area a r = Inside (length a) r
+
+none-inside : (a : List ℕ) (n : ℕ) → Within-area a (refused n)
 none-inside a n = omega arith
 
-pub inside : (a : List ℕ) → Inside a (readArea a)
-inside = whole Inside none-inside (λ a v r h w. omega arith, (λ a v r h w. omega arith, (λ a v r h w. omega arith, tt)))
-
-pub bare : (a : List ℕ) → Bare (readArea a)
-bare =
-    whole (λ a r. Bare r) (λ a n h. refl)
-    (λ a v r h w n. absurd (n refl), (λ a v r h w n. absurd (n refl), (λ a v r h w n. absurd (n refl), tt)))
+inside : (a : List ℕ) → Within-area a (readArea a)
+inside = whole Within-area none-inside (λ a v r h w. omega arith, (λ a v r h w. omega arith, (λ a v r h w. omega arith, tt)))
 
 -- a part of an area that is read lies within the most octets of one
-pub record Small (r : Reading) : Type 0 where
-  pub tac : r .tac .start + r .tac .len ≤ areaMost
-  pub sac : r .sac .start + r .sac .len ≤ areaMost
-
-pub small : (a : List ℕ) → Small (readArea a)
+small : (a : List ℕ) → Inside areaMost (readArea a)
 unfolding readArea
 small a = go (inside a)
   where
-    go : Inside a (readArea a) → Small (readArea a)
-    go = by-test (λ (r : Reading). Inside a r → Small r) (λ _ i. record { tac = omega arith; sac = omega arith })
+    go : Within-area a (readArea a) → Inside areaMost (readArea a)
+    go = by-test (λ (r : Reading). Within-area a r → Inside areaMost r) (λ _ i. record { tac = omega arith; sac = omega arith })
         (λ h i. let l = ltb-false areaMost (length a) h in
         record { tac = omega (arith, i .tac); sac = omega (arith, i .sac) })
+
+pub parts-inside : PartsInside
+parts-inside a = (inside a, small a)
+
+pub nothing-after-refusal : NothingAfterRefusal
+nothing-after-refusal =
+    whole (λ a r. Bare r) (λ a n h. refl)
+    (λ a v r h w n. absurd (n refl), (λ a v r h w n. absurd (n refl), (λ a v r h w n. absurd (n refl), tt)))

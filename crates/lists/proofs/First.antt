@@ -14,7 +14,7 @@ use Rattle.sets.specs.Set.{has, switched}
 use Rattle.sets.proofs.Members.{has-none}
 use Rattle.sets.proofs.Switches.{switched-same, switched-other, switched-lt}
 use Rattle.kinds.specs.Kinds.{applicationCount}
-use Rattle.lists.specs.Tac.{elementCount, idAt, adds, stood, after, tacList, First}
+use Rattle.lists.specs.Tac.{elementCount, idAt, adds, stood, after, tacList, First, FirstDecides, AbsentStays, ListedIsPresent, UnknownIsSkipped}
 use Rattle.lists.proofs.Turn.{stood-found}
 
 -- where no element has the identifier, it did not stand
@@ -59,13 +59,13 @@ module _ (v : List ℕ) (opening : Bool) (s n : ℕ) (least : 1 ≤ n) (most : n
   none-among zero f = refl
   none-among (suc i) f = keeps i (λ p. absurd (f i (omega arith) p)) ∙ none-among i (λ j h. f j (omega arith))
 
-  pub first-decides : (i : ℕ) → i < elementCount v → First v n i → has (tacList v opening s) (n - 1) ≡ (adds v opening i)
-  unfolding tacList inSet
-  first-decides i h d = first-among (elementCount v) i h d
+pub first-decides : FirstDecides
+unfolding tacList inSet
+first-decides v opening s n least most i = first-among v opening s n least most (elementCount v) i
 
-  pub absent-stays : ((i : ℕ) → i < elementCount v → idAt v i ≡ n → ⊥) → has (tacList v opening s) (n - 1) ≡ has s (n - 1)
-  unfolding tacList inSet
-  absent-stays f = none-among (elementCount v) f
+pub absent-stays : AbsentStays
+unfolding tacList inSet
+absent-stays v opening s n least most = none-among v opening s n least most (elementCount v)
 
 -- ---- Initialization: "the peer's list is every known TA-Id present"
 module _ (v : List ℕ) (n : ℕ) (least : 1 ≤ n) (most : n ≤ applicationCount) where
@@ -80,9 +80,14 @@ module _ (v : List ℕ) (n : ℕ) (least : 1 ≤ n) (most : n ≤ applicationCou
       go (yes p) false q h = says v true 0 n least most i p q ∙ sym (ap (λ (b : Bool). b || stood v n i) (eq-eqb _ _ p))
       go (no p) x q h = keeps v true 0 n least most i (λ e. absurd (p e)) ∙ h ∙ sym (ap (λ (b : Bool). b || stood v n i) (ne-eqb _ _ p))
 
-  pub listed-present : has (tacList v true 0) (n - 1) ≡ stood v n (elementCount v)
-  unfolding tacList
-  listed-present = present (elementCount v)
+pub listed-is-present : ListedIsPresent
+unfolding tacList
+listed-is-present v n least most = present v n least most (elementCount v)
+
+-- ---- an unknown identifier
+pub unknown-is-skipped : UnknownIsSkipped
+unfolding switched
+unknown-is-skipped s n on h = left _ _ h
 
 -- ---- no bits beyond the applications
 after-lt : (v : List ℕ) (opening : Bool) (s : ℕ) → s < 2 ^ applicationCount → (i : ℕ) → after v opening s i < 2 ^ applicationCount

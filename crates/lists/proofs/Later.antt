@@ -14,7 +14,7 @@ use Rattle.choice.proofs.Tests.{and-first, and-second, not-false}
 use Rattle.sets.specs.Set.{has, switched}
 use Rattle.sets.proofs.Switches.{switched-same, switched-other, switched-lt}
 use Rattle.kinds.specs.Kinds.{appCount}
-use Rattle.lists.specs.Sac.{dOf, appOf, idle, sacElement, elementAt, sacAfter, sacList, acts, Last}
+use Rattle.lists.specs.Sac.{dOf, appOf, idle, sacElement, elementAt, sacAfter, sacList, acts, Last, LaterHolds, IdleStays}
 
 module _ (opening : Bool) (n : ℕ) (least : 1 ≤ n) (most : n ≤ appCount) where
   does : (s x : ℕ) → acts opening n x ≡ true → has (sacElement opening s x) (n - 1) ≡ dOf x
@@ -51,13 +51,13 @@ module _ (opening : Bool) (n : ℕ) (least : 1 ≤ n) (most : n ≤ appCount) wh
     none-among zero f = refl
     none-among (suc i) f = does-not (sacAfter v opening s i) (elementAt v i) (f i (omega arith)) ∙ none-among i (λ k h. f k (omega arith))
 
-    pub later-holds : (j : ℕ) → Last v opening n (length v - 1) j → has (sacList v opening s) (n - 1) ≡ dOf (elementAt v j)
-    unfolding sacList
-    later-holds j l = last-among (length v - 1) j l
+pub later-holds : LaterHolds
+unfolding sacList
+later-holds opening n least most v s j = last-among opening n least most v s (length v - 1) j
 
-    pub idle-stays : ((k : ℕ) → k < length v - 1 → acts opening n (elementAt v k) ≡ true → ⊥) → has (sacList v opening s) (n - 1) ≡ has s (n - 1)
-    unfolding sacList
-    idle-stays f = none-among (length v - 1) f
+pub idle-stays : IdleStays
+unfolding sacList
+idle-stays opening n least most v s = none-among opening n least most v s (length v - 1)
 
 -- ---- no bits beyond the Apps
 after-lt : (v : List ℕ) (opening : Bool) (s : ℕ) → s < 2 ^ appCount → (i : ℕ) → sacAfter v opening s i < 2 ^ appCount

@@ -1,5 +1,4 @@
 pub mod Turn
 pub mod First
 pub mod Later
-pub mod Determined
 pub mod Examples

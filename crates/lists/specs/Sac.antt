@@ -1,13 +1,13 @@
 -- Lists: what the elements of a SAC make of the disabled Apps. A value of any length is a list: its first octet, which is not read, then
 -- elements of 1 octet. Assumes nothing.
-use Prim.Native.Nat.{ℕ, zero, suc, _+_, _-_, _/_, _%_, _<_}
+use Prim.Native.Nat.{ℕ, zero, suc, _+_, _-_, _/_, _%_, _<_, _≤_}
 use mathlib.Core.Path.{_≡_}
 use mathlib.Core.List.{List}
 use mathlib.Core.Bool.{Bool, true, not, _&&_}
 use lib.ListN.{length, getD}
 use lib.Dec.{eqb}
 use Rattle.choice.specs.Pick.{pick}
-use Rattle.sets.specs.Set.{switched}
+use Rattle.sets.specs.Set.{has, switched}
 use Rattle.kinds.specs.Kinds.{appCount}
 use Rattle.octets.specs.Octets.{hasTopBit}
 
@@ -48,3 +48,16 @@ pub record Last (v : List ℕ) (opening : Bool) (n i j : ℕ) : Type 0 where
   pub among : j < i
   pub does : acts opening n (elementAt v j) ≡ true
   pub behind : (k : ℕ) → j < k → k < i → acts opening n (elementAt v k) ≡ true → ⊥
+
+-- ---- what these rules come to, for each App n of the four
+-- "of those that do anything the later one holds"
+abbrev pub LaterHolds : Type 0
+LaterHolds =
+    (opening : Bool) (n : ℕ) → 1 ≤ n → n ≤ appCount → (v : List ℕ) (s j : ℕ) → Last v opening n (length v - 1) j
+    → has (sacList v opening s) (n - 1) ≡ dOf (elementAt v j)
+
+-- one to which no element does anything stays as it was
+abbrev pub IdleStays : Type 0
+IdleStays =
+    (opening : Bool) (n : ℕ) → 1 ≤ n → n ≤ appCount → (v : List ℕ) (s : ℕ) → ((k : ℕ) → k < length v - 1 → acts opening n (elementAt v k) ≡ true → ⊥)
+    → has (sacList v opening s) (n - 1) ≡ has s (n - 1)

@@ -1,13 +1,13 @@
 -- Lists: what the elements of a TAC make of a set of applications. A value of any length is a list: its first octet, then elements
 -- of 4 octets as far as they are whole. Assumes nothing.
-use Prim.Native.Nat.{ℕ, zero, suc, _+_, _*_, _-_, _/_, _<_}
+use Prim.Native.Nat.{ℕ, zero, suc, _+_, _*_, _-_, _/_, _<_, _≤_}
 use mathlib.Core.Path.{_≡_}
 use mathlib.Core.List.{List}
-use mathlib.Core.Bool.{Bool, false, _||_}
+use mathlib.Core.Bool.{Bool, true, false, _||_}
 use lib.ListN.{length, getD}
 use lib.Dec.{eqb}
 use Rattle.choice.specs.Pick.{pick}
-use Rattle.sets.specs.Set.{switched}
+use Rattle.sets.specs.Set.{has, numbered, switched}
 use Rattle.kinds.specs.Kinds.{applicationCount}
 use Rattle.octets.specs.Octets.{hasTopBit}
 use Rattle.area.specs.Area.{elementLength, at16}
@@ -52,3 +52,24 @@ tacList v opening s = after v opening s (elementCount v)
 pub record First (v : List ℕ) (n i : ℕ) : Type 0 where
   pub named : idAt v i ≡ n
   pub before : (j : ℕ) → j < i → idAt v j ≡ n → ⊥
+
+-- ---- what these rules come to, for each application n of the thirteen
+-- of the elements with one TA-Id the first decides, "whatever its E"
+abbrev pub FirstDecides : Type 0
+FirstDecides =
+    (v : List ℕ) (opening : Bool) (s n : ℕ) → 1 ≤ n → n ≤ applicationCount → (i : ℕ) → i < elementCount v → First v n i
+    → has (tacList v opening s) (n - 1) ≡ (adds v opening i)
+
+-- one that no element names stays as it was
+abbrev pub AbsentStays : Type 0
+AbsentStays =
+    (v : List ℕ) (opening : Bool) (s n : ℕ) → 1 ≤ n → n ≤ applicationCount → ((i : ℕ) → i < elementCount v → idAt v i ≡ n → ⊥)
+    → has (tacList v opening s) (n - 1) ≡ has s (n - 1)
+
+-- Initialization: "the peer's list is every known TA-Id present"
+abbrev pub ListedIsPresent : Type 0
+ListedIsPresent = (v : List ℕ) (n : ℕ) → 1 ≤ n → n ≤ applicationCount → has (tacList v true 0) (n - 1) ≡ stood v n (elementCount v)
+
+-- an unknown one is skipped
+abbrev pub UnknownIsSkipped : Type 0
+UnknownIsSkipped = (s n : ℕ) (on : Bool) → numbered applicationCount n ≡ false → switched applicationCount s n on ≡ s

@@ -25,7 +25,7 @@ use Rattle.promises.specs.Run.{StaysOpen}
 use Rattle.promises.specs.Words.{Permits}
 use Rattle.promises.specs.Records.{Octets, recordRun, AllNumbered}
 use Rattle.promises.specs.Condition3.{NeverLess}
-use Rattle.promises.specs.Calls.{Called, tacit-initialization, tacit-capability, tacit-local-change, tacit-mismatch, tacit-hello, tacit-closed, CallsAreEvents, RoomsAreEvents, CalledRun, ended, called, CallsFollow, PermittedIsAsked, StaysOpenUnder, CallsCondition3}
+use Rattle.promises.specs.Calls.{Called, tacit-initialization, tacit-capability, tacit-local-change, tacit-mismatch, tacit-hello, tacit-closed, CallsAreEvents, RoomsAreEvents, CalledRun, ended, called, CallsFollow, CallsAnswer, PermittedIsAsked, StaysOpenUnder, CallsCondition3}
 use Rattle.promises.proofs.Records.{Holds, holds, holds-after, still, run-holds, records-follow}
 use Rattle.promises.proofs.Condition3.{condition-3}
 
@@ -71,6 +71,24 @@ calls-condition-3 l m area es l′ m′ ol om k pair first second o =
     subst (λ (s : Session). NeverLess s (decoded m′)) (sym (calls-follow all l l′ ol (pair .first-sound) (tt, k) first .0))
     (subst (NeverLess (run (decoded l) all)) (sym (calls-follow all m m′ om (pair .second-sound) (tt, k) second .0))
     (condition-3 (decoded l) (decoded m) area allApplications es pair (stays-open all l l′ hl (tt, k) first o)))
+
+-- ---- the other calls: their contracts are these equations
+pub calls-answer : CallsAnswer
+calls-answer =
+    record {
+      tacit-create = λ κs a r s p. p;
+      tacit-read = λ κs a r s p. p;
+      tacit-permitted = λ κs a r s p. p;
+      tacit-permitted-kinds = λ κs a r s p. p;
+      tacit-why-not = λ κs a r s p. p;
+      tacit-retry-interval = λ κs a r s p. p;
+      tacit-sound = λ κs a r s p. p;
+      tacit-load = λ κs a r s p. p;
+      tacit-store = λ κs a r s p. p;
+      tacit-no-limits = λ a r s p. p;
+      tacit-set-limit = λ a r s p. p;
+      tacit-row-count = λ κs a r s p. p;
+    }
 
 -- ---- the question about a kind
 one-where : (b : Bool) → (_≡_ {A = ℕ} (pick b 1 0) 1) ↔ (b ≡ true)

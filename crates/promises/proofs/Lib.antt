@@ -10,4 +10,5 @@ pub mod RowCondition3
 pub mod RowCalls
 pub mod RowRecords
 pub mod Creation
+pub mod Determined
 pub mod Why

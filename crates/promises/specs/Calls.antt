@@ -12,9 +12,15 @@ use Rattle.session.specs.declared.Answer.{Answer}
 use Rattle.session.specs.declared.Session.{Session}
 use Rattle.session.specs.Session.{isOpen, sound}
 use Rattle.session.specs.With.{fresh}
-use Rattle.session.specs.Creation.{roleFlags}
+use Rattle.session.specs.Creation.{roleFlags, created}
 use Rattle.session.specs.Events.{Event, Initialization, Capability, LocalChange, Mismatch, Hello, Closed, step, run, roomAfter}
+use Rattle.session.specs.Questions.{permission, permittedKinds, whyNot, retryInterval}
+use Rattle.area.specs.Area.{readArea}
+use Rattle.row.specs.Limiting.{noLimits, limited}
+use Rattle.row.specs.Row.{countOf}
 use Rattle.record.specs.Record.{decoded}
+use Rattle.record.specs.Loaded.{load, storeRefusal, storeOctets}
+use Rattle.tacit.specs.Creation.{CreatedIn}
 use Rattle.record.specs.Carried.{Carried}
 use Rattle.tacit.proofs.tacit_create.Reads as create
 use Rattle.tacit.proofs.tacit_initialization.Reads as initialization
@@ -23,7 +29,17 @@ use Rattle.tacit.proofs.tacit_local_change.Reads as local-change
 use Rattle.tacit.proofs.tacit_mismatch.Reads as mismatch
 use Rattle.tacit.proofs.tacit_hello.Reads as hello
 use Rattle.tacit.proofs.tacit_closed.Reads as closed
+use Rattle.tacit.proofs.tacit_read.Reads as read
 use Rattle.tacit.proofs.tacit_permitted.Reads as permitted
+use Rattle.tacit.proofs.tacit_permitted_kinds.Reads as permitted-kinds
+use Rattle.tacit.proofs.tacit_why_not.Reads as why-not
+use Rattle.tacit.proofs.tacit_retry_interval.Reads as retry-interval
+use Rattle.tacit.proofs.tacit_sound.Reads as is-sound
+use Rattle.tacit.proofs.tacit_load.Reads as loaded
+use Rattle.tacit.proofs.tacit_store.Reads as stored
+use Rattle.tacit.proofs.tacit_no_limits.Reads as no-limits
+use Rattle.tacit.proofs.tacit_set_limit.Reads as set-limit
+use Rattle.promises.specs.Walked.{RowCount}
 use Rattle.promises.specs.Words.{Permits}
 use Rattle.promises.specs.Records.{Octets, AllNumbered}
 use Rattle.promises.specs.Condition3.{ReadyPair, NeverLess}
@@ -67,6 +83,23 @@ CreationIsSound =
     (κs : _) (a r s : _) → create.Post κs a r s → r ≡ notRefused → a .1 .1 .1 .1 .1 .1 .1 .0 < 2 ^ 32
     → (decoded (s .0 .now) ≡ fresh (roleFlags (a .1 .0) (a .1 .1 .0) (a .1 .1 .1 .0) (a .1 .1 .1 .1 .0)) (a .1 .1 .1 .1 .1 .0) (a .1 .1 .1 .1 .1 .1 .0) (a .1 .1 .1 .1 .1 .1 .1 .0))
     × (sound (decoded (s .0 .now)) ≡ true)
+
+-- ---- the other calls, each by the definition that is its own
+pub record CallsAnswer : Type 0 where
+  pub tacit-create : (κs : _) (a r s : _) → create.Post κs a r s
+      → CreatedIn (created (roleFlags (a .1 .0) (a .1 .1 .0) (a .1 .1 .1 .0) (a .1 .1 .1 .1 .0)) (a .1 .1 .1 .1 .1 .0) (a .1 .1 .1 .1 .1 .1 .0) (a .1 .1 .1 .1 .1 .1 .1 .0))
+      (a .0 .now) r (s .0 .now)
+  pub tacit-read : (κs : _) (a r s : _) → read.Post κs a r s → r ≡ readArea (a .0 .now)
+  pub tacit-permitted : (κs : _) (a r s : _) → permitted.Post κs a r s → r ≡ permission (decoded (a .0 .now)) (a .1 .0)
+  pub tacit-permitted-kinds : (κs : _) (a r s : _) → permitted-kinds.Post κs a r s → r ≡ permittedKinds (decoded (a .0 .now))
+  pub tacit-why-not : (κs : _) (a r s : _) → why-not.Post κs a r s → r ≡ whyNot (decoded (a .0 .now)) (a .1 .0)
+  pub tacit-retry-interval : (κs : _) (a r s : _) → retry-interval.Post κs a r s → r ≡ retryInterval (decoded (a .0 .now))
+  pub tacit-sound : (κs : _) (a r s : _) → is-sound.Post κs a r s → r ≡ sound (decoded (a .0 .now))
+  pub tacit-load : (κs : _) (a r s : _) → loaded.Post κs a r s → r ≡ load (a .0 .now)
+  pub tacit-store : (κs : _) (a r s : _) → stored.Post κs a r s → (r ≡ storeRefusal (a .0) (a .1 .0 .now)) × (s .1 .0 .now ≡ storeOctets (a .0) (a .1 .0 .now))
+  pub tacit-no-limits : (a r s : _) → no-limits.Post tt a r s → r ≡ noLimits
+  pub tacit-set-limit : (a r s : _) → set-limit.Post tt a r s → r ≡ limited (a .0) (a .1 .0) (a .1 .1 .0)
+  pub tacit-row-count : (κs : _) (a r s : _) → RowCount κs a r s → r ≡ countOf (a .0 .now) (a .1 .0)
 
 -- ---- the question: of a sound record and a kind that is one, it answers 1 exactly where the session permits the kind
 abbrev pub PermittedIsAsked : Type 0

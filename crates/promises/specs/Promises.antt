@@ -1,27 +1,63 @@
--- All that is promised of sessions and of rows of them beyond what each function ensures. Assumes nothing.
+-- All that is promised of sessions, records and rows beyond what each function ensures, and all laws that docs/PROMISES.md cites. Assumes nothing.
+use Rattle.area.specs.Parts.{PartsInside, NothingAfterRefusal}
+use Rattle.area.specs.Tlvs.{ReadByTlvs}
+use Rattle.lists.specs.Tac.{FirstDecides, AbsentStays, ListedIsPresent, UnknownIsSkipped}
+use Rattle.lists.specs.Sac.{LaterHolds, IdleStays}
+use Rattle.session.specs.Session.{SoundMeans, PermittedMeans}
 use Rattle.record.specs.Record.{ReadBack, StoredBack}
 use Rattle.record.specs.Loaded.{LoadedBack, StaysAsLoaded}
-use Rattle.promises.specs.Run.{SoundOverRuns, RefusedIsNothing, RoomStays, RefusedCanGo, WithoutLimits}
+use Rattle.promises.specs.Run.{SoundOverRuns, RefusedIsNothing, RoomStays, RefusedCanGo, WithoutLimits, FoundOrTold}
 use Rattle.promises.specs.Condition3.{Condition3}
 use Rattle.promises.specs.Written.{ReadAsMeant}
 use Rattle.promises.specs.Records.{RecordsFollow}
+use Rattle.promises.specs.Calls.{CallsAreEvents, RoomsAreEvents, CallsFollow, CallsAnswer, CreationIsSound, PermittedIsAsked, CallsCondition3}
 use Rattle.promises.specs.Rows.{SoundOverRows, OthersStay, RowRefusedIsNothing, CountsFollow, LimitIsMismatch, LimitsDecide, BaseWhereNoLimitBinds, NoLimitBindsUnset}
 use Rattle.promises.specs.RowCondition3.{RowCondition3}
+use Rattle.promises.specs.RowCalls.{RowCallsAreEvents, RowCallsFollow, RowCallsCondition3}
+use Rattle.promises.specs.RowRecords.{NarrowOverRows, RowIsRun, RowRecordsFollow}
+use Rattle.promises.specs.Examples.{Examples, WhyItStops, WhyAtThatMoment, FurtherKind}
 use Rattle.promises.specs.Why.{WhyNot}
-use Rattle.promises.specs.Examples.{Examples, WhyItStops, WhyAtThatMoment}
 use Rattle.promises.specs.RowExamples.{RowExamples, WhyTheOneSession}
+use Rattle.promises.specs.Determined.{AllDetermined}
 
 pub record Promises : Type 0 where
+  -- reading, and lists
+  pub parts-inside : PartsInside
+  pub nothing-after-refusal : NothingAfterRefusal
+  pub read-by-tlvs : ReadByTlvs
+  pub first-decides : FirstDecides
+  pub absent-stays : AbsentStays
+  pub listed-is-present : ListedIsPresent
+  pub unknown-is-skipped : UnknownIsSkipped
+  pub later-holds : LaterHolds
+  pub idle-stays : IdleStays
+  -- sessions and their events
+  pub sound-means : SoundMeans
+  pub permitted-means : PermittedMeans
   pub sound-over-runs : SoundOverRuns
   pub refused-is-nothing : RefusedIsNothing
   pub room-stays : RoomStays
   pub refused-can-go : RefusedCanGo
   pub without-limits : WithoutLimits
+  pub found-or-told : FoundOrTold
+  pub read-as-meant : ReadAsMeant
+  pub condition-3 : Condition3
+  -- records
   pub read-back : ReadBack
   pub stored-back : StoredBack
   pub records-follow : RecordsFollow
-  pub read-as-meant : ReadAsMeant
-  pub condition-3 : Condition3
+  pub loaded-back : LoadedBack
+  pub stays-as-loaded : StaysAsLoaded
+  -- the C calls
+  pub calls-are-events : CallsAreEvents
+  pub rooms-are-events : RoomsAreEvents
+  pub calls-follow : CallsFollow
+  pub calls-answer : CallsAnswer
+  pub creation-is-sound : CreationIsSound
+  pub permitted-is-asked : PermittedIsAsked
+  pub calls-condition-3 : CallsCondition3
+  pub all-determined : AllDetermined
+  -- rows
   pub sound-over-rows : SoundOverRows
   pub others-stay : OthersStay
   pub row-refused-is-nothing : RowRefusedIsNothing
@@ -31,11 +67,17 @@ pub record Promises : Type 0 where
   pub base-where-no-limit-binds : BaseWhereNoLimitBinds
   pub no-limit-binds-unset : NoLimitBindsUnset
   pub row-condition-3 : RowCondition3
+  pub row-calls-are-events : RowCallsAreEvents
+  pub row-calls-follow : RowCallsFollow
+  pub row-calls-condition-3 : RowCallsCondition3
+  pub narrow-over-rows : NarrowOverRows
+  pub row-is-run : RowIsRun
+  pub row-records-follow : RowRecordsFollow
   pub why-not : WhyNot
+  -- computed
   pub examples : Examples
   pub why-it-stops : WhyItStops
   pub why-at-that-moment : WhyAtThatMoment
-  pub loaded-back : LoadedBack
-  pub stays-as-loaded : StaysAsLoaded
+  pub further-kind : FurtherKind
   pub row-examples : RowExamples
   pub why-the-one-session : WhyTheOneSession

@@ -2,4 +2,3 @@ pub mod Locals
 pub mod Walk
 pub mod EventCases
 pub mod Tallied
-pub mod Determined

@@ -5,4 +5,3 @@ pub mod Alike
 pub mod View
 pub mod Steps
 pub mod PermittedMeans
-pub mod Determined

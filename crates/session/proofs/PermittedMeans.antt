@@ -15,7 +15,7 @@ use Rattle.kinds.specs.Kinds.{applicationCount, kindCount, allKinds, opens, ope
 use Rattle.kinds.proofs.Table.{opens-lt}
 use Rattle.kinds.proofs.Gathered.{gather-lt, opened-some, some-opened, disables-some, some-disables}
 use Rattle.session.specs.declared.Session.{Session}
-use Rattle.session.specs.Session.{isOpen, inForce, negotiated, Sound, permitted, Negotiates, Permitted}
+use Rattle.session.specs.Session.{isOpen, inForce, negotiated, Sound, permitted, Negotiates, Permitted, PermittedMeans}
 
 -- no other number than a kind's in a set of kinds
 pub kind-of : (a k : ℕ) → a < 2 ^ kindCount → has a k ≡ true → k < kindCount
@@ -94,3 +94,6 @@ module _ (s : Session) (k : ℕ) where
       allowed : (x : Bool) → has (disables (s .disabled)) k ≡ x → has (disables (s .disabled)) k ≡ false
       allowed true e = absurd (p .not-disabled (disables-some (s .disabled) k e))
       allowed false e = e
+
+pub both-ways : PermittedMeans
+both-ways s k r = (permitted-means s k r, means-permitted s k)

@@ -10,7 +10,7 @@ use Rattle.sets.proofs.Bounds.{below-lt, lt-below}
 use Rattle.sets.proofs.Subsets.{empty-is}
 use Rattle.kinds.specs.Kinds.{applicationCount, kindCount, appCount}
 use Rattle.session.specs.declared.Session.{Session}
-use Rattle.session.specs.Session.{stateGone, flagCount, isOpen, isHeld, isGone, active, usesTac, inForce, dynamic, recorded, negotiated, leavesGone, spareZero, forceSound, listedSound, openSound, helloSound, heldSound, goneSound, sound, Sound}
+use Rattle.session.specs.Session.{stateGone, flagCount, isOpen, isHeld, isGone, active, usesTac, inForce, dynamic, recorded, negotiated, leavesGone, spareZero, forceSound, listedSound, openSound, helloSound, heldSound, goneSound, sound, Sound, SoundMeans}
 
 -- `not`, both ways
 not-true : {x : Bool} → x ≡ false → not x ≡ true
@@ -71,3 +71,6 @@ module _ (s : Session) where
       (and-both _ _ (unless-holds (recorded s) _ (λ e. eq-eqb _ 0 (r .unrecorded-hello e)))
       (and-both _ _ (only-holds (isHeld s) _ (λ e. and-both _ _ (r .held-active e) (not-true (r .held-stays e))))
       (only-holds (isGone s) _ (λ e. and-both _ _ (r .gone-active e) (and-both _ _ (r .gone-leaves e) (not-true (r .gone-unrecorded e))))))))))
+
+pub both-ways : SoundMeans
+both-ways s = (sound-means s, means-sound s)

@@ -2,6 +2,7 @@
 use Prim.Native.Nat.{ℕ, _+_, _-_, _^_, _≤_, _<_}
 use mathlib.Core.Path.{_≡_}
 use mathlib.Core.Bool.{Bool, true, false, not, _&&_}
+use mathlib.Core.Logic.{_↔_}
 use lib.Dec.{eqb, leb}
 use Rattle.choice.specs.Pick.{pick, only, unless}
 use Rattle.sets.specs.Set.{has, one, common, minus, empty, below}
@@ -157,6 +158,10 @@ pub record Sound (s : Session) : Type 0 where
   pub gone-leaves : isGone s ≡ true → leavesGone s ≡ true
   pub gone-unrecorded : isGone s ≡ true → recorded s ≡ false
 
+-- "Sound means": the test holds exactly where every rule does
+abbrev pub SoundMeans : Type 0
+SoundMeans = (s : Session) → (sound s ≡ true) ↔ Sound s
+
 -- its two numbers are of 32 bits
 pub record Narrow (s : Session) : Type 0 where
   pub hello : s .hello < 2 ^ 32
@@ -182,3 +187,7 @@ pub record Permitted (s : Session) (k : ℕ) : Type 0 where
   pub kind : k < kindCount
   pub not-disabled : Some controlled appCount (s .disabled) k → ⊥
   pub negotiates : inForce s ≡ true → Negotiates s k
+
+-- the set is the sentence, both ways
+abbrev pub PermittedMeans : Type 0
+PermittedMeans = (s : Session) (k : ℕ) → Sound s → (has (permitted s) k ≡ true) ↔ Permitted s k

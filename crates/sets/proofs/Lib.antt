@@ -5,4 +5,3 @@ pub mod Switches
 pub mod Chosen
 pub mod Found
 pub mod Flags
-pub mod Determined

@@ -1,30 +1,63 @@
 -- `promises::kept` meets its contract: each promise by its theorem. Assumes nothing.
+use Rattle.area.proofs.Parts.{parts-inside, nothing-after-refusal}
+use Rattle.area.proofs.Tlvs.{read-by-tlvs}
+use Rattle.lists.proofs.First.{first-decides, absent-stays, listed-is-present, unknown-is-skipped}
+use Rattle.lists.proofs.Later.{later-holds, idle-stays}
+use Rattle.session.proofs.SoundMeans as sound
+use Rattle.session.proofs.PermittedMeans as permits
 use Rattle.record.proofs.RoundTrip.{read-back, stored-back, loaded-back, stays-as-loaded}
-use Rattle.promises.proofs.Runs.{sound-over-runs, refused-is-nothing, room-stays, refused-can-go, without-limits}
+use Rattle.promises.proofs.Runs.{sound-over-runs, refused-is-nothing, room-stays, refused-can-go, without-limits, found-or-told}
 use Rattle.promises.proofs.Condition3.{condition-3}
 use Rattle.promises.proofs.Written.{read-as-meant}
 use Rattle.promises.proofs.Records.{records-follow}
+use Rattle.promises.proofs.Calls.{calls-are-events, rooms-are-events, calls-follow, calls-answer, permitted-is-asked, calls-condition-3}
+use Rattle.promises.proofs.Creation.{creation-is-sound}
 use Rattle.promises.proofs.Rows.{sound-over-rows, others-stay, row-refused-is-nothing, counts-follow}
 use Rattle.promises.proofs.Limits.{limit-is-mismatch, limits-decide, base-where-no-limit-binds, no-limit-binds-unset}
 use Rattle.promises.proofs.RowCondition3.{row-condition-3}
+use Rattle.promises.proofs.RowCalls.{row-calls-are-events, row-calls-follow, row-calls-condition-3}
+use Rattle.promises.proofs.RowRecords.{narrow-over-rows, row-is-run, row-records-follow}
+use Rattle.promises.proofs.Examples.{examples, why-it-stops, why-at-that-moment, further-kind, row-examples, why-the-one-session}
+use Rattle.promises.proofs.Determined.{all-determined}
 use Rattle.promises.proofs.Why.{why-not}
-use Rattle.promises.proofs.Examples.{examples, why-it-stops, why-at-that-moment, row-examples, why-the-one-session}
 use Rattle.promises.proofs.kept.Statement.{statement}
 use Rattle.promises.proofs.kept.Tie as tie
 
 returns : tie.Need-returns
 returns c =
     record {
+      parts-inside = parts-inside;
+      nothing-after-refusal = nothing-after-refusal;
+      read-by-tlvs = read-by-tlvs;
+      first-decides = first-decides;
+      absent-stays = absent-stays;
+      listed-is-present = listed-is-present;
+      unknown-is-skipped = unknown-is-skipped;
+      later-holds = later-holds;
+      idle-stays = idle-stays;
+      sound-means = sound.both-ways;
+      permitted-means = permits.both-ways;
       sound-over-runs = sound-over-runs;
       refused-is-nothing = refused-is-nothing;
       room-stays = room-stays;
       refused-can-go = refused-can-go;
       without-limits = without-limits;
+      found-or-told = found-or-told;
+      read-as-meant = read-as-meant;
+      condition-3 = condition-3;
       read-back = read-back;
       stored-back = stored-back;
       records-follow = records-follow;
-      read-as-meant = read-as-meant;
-      condition-3 = condition-3;
+      loaded-back = loaded-back;
+      stays-as-loaded = stays-as-loaded;
+      calls-are-events = calls-are-events;
+      rooms-are-events = rooms-are-events;
+      calls-follow = calls-follow;
+      calls-answer = calls-answer;
+      creation-is-sound = creation-is-sound;
+      permitted-is-asked = permitted-is-asked;
+      calls-condition-3 = calls-condition-3;
+      all-determined = all-determined;
       sound-over-rows = sound-over-rows;
       others-stay = others-stay;
       row-refused-is-nothing = row-refused-is-nothing;
@@ -34,12 +67,17 @@ returns c =
       base-where-no-limit-binds = base-where-no-limit-binds;
       no-limit-binds-unset = no-limit-binds-unset;
       row-condition-3 = row-condition-3;
+      row-calls-are-events = row-calls-are-events;
+      row-calls-follow = row-calls-follow;
+      row-calls-condition-3 = row-calls-condition-3;
+      narrow-over-rows = narrow-over-rows;
+      row-is-run = row-is-run;
+      row-records-follow = row-records-follow;
       why-not = why-not;
       examples = examples;
       why-it-stops = why-it-stops;
       why-at-that-moment = why-at-that-moment;
-      loaded-back = loaded-back;
-      stays-as-loaded = stays-as-loaded;
+      further-kind = further-kind;
       row-examples = row-examples;
       why-the-one-session = why-the-one-session;
     }

@@ -1,0 +1,141 @@
+-- Every public function's promise determines its outcome: it is an equation with what the function was handed, or two or three of them. Assumes nothing.
+use Rattle.choice.proofs.Determined.{by-equation, by-law, both-same}
+use Rattle.promises.specs.Determined.{SetsDetermined, KindsDetermined, OctetsDetermined, AreaDetermined, ListsDetermined, MessageDetermined, SessionDetermined, RecordDetermined, RowDetermined, TacitDetermined, AllDetermined}
+
+sets-determined : SetsDetermined
+sets-determined =
+    record {
+      has = by-equation _;
+      common = by-equation _;
+      union = by-equation _;
+      minus = by-equation _;
+      numbered = by-equation _;
+      switched = by-equation _;
+    }
+
+kinds-determined : KindsDetermined
+kinds-determined =
+    record {
+      is-known = by-equation _;
+      is-in = by-equation _;
+      switched = by-equation _;
+      app-switched = by-equation _;
+      opened = by-equation _;
+      disables = by-equation _;
+    }
+
+octets-determined : OctetsDetermined
+octets-determined =
+    record {
+      put = λ κs. by-law _ (λ a r s p. p);
+      put-at = λ κs. by-law _ (λ a r s p. p);
+      top-bit = by-equation _;
+      read16 = λ κs. by-equation _;
+      read32 = λ κs. by-equation _;
+    }
+
+area-determined : AreaDetermined
+area-determined =
+    record {
+      at16 = λ κs. by-law _ (λ a r s p. p .0);
+      read-area = λ κs. by-equation _;
+      part-of = λ κs. by-law _ (λ a r s p. p);
+    }
+
+lists-determined : ListsDetermined
+lists-determined =
+    record {
+      s-bit = λ κs. by-equation _;
+      tac-list = λ κs. by-equation _;
+      sac-list = λ κs. by-equation _;
+    }
+
+message-determined : MessageDetermined
+message-determined =
+    record {
+      write = λ κs. by-law _ (λ a r s p. p);
+    }
+
+session-determined : SessionDetermined
+session-determined =
+    record {
+      new = by-equation _;
+      sound = by-equation _;
+      permitted-kinds = by-equation _;
+      permission = by-equation _;
+      why-not = by-equation _;
+      retry-interval = by-equation _;
+      initialization = λ κs. by-equation _;
+      used = by-equation _;
+      capability = λ κs. by-equation _;
+      local-change = by-equation _;
+      mismatch = by-equation _;
+      hello = by-equation _;
+      closed = by-equation _;
+      unknown = by-equation _;
+      refused = by-equation _;
+      none = by-equation _;
+    }
+
+record-determined : RecordDetermined
+record-determined =
+    record {
+      stored-in = λ κs. by-law _ (λ a r s p. p);
+      decoded = λ κs. by-equation _;
+      carry = λ κs. by-law _ (λ a r s p. both-same (p .answer) (p .octets));
+      load = λ κs. by-equation _;
+      store = λ κs. by-law _ (λ a r s p. both-same (p .0) (p .1));
+    }
+
+row-determined : RowDetermined
+row-determined =
+    record {
+      no-limits = by-equation _;
+      limited = by-equation _;
+      empty = by-equation _;
+      tally = by-equation _;
+      count-by = by-equation _;
+      event-in = λ κs. by-law _ (λ a r s p. both-same (p .0) (p .1));
+      outside = by-equation _;
+      uncounted = by-equation _;
+      tally-of = λ κs. by-equation _;
+    }
+
+tacit-determined : TacitDetermined
+tacit-determined =
+    record {
+      tacit-create = λ κs. by-law _ (λ a r s p. both-same (p .refusal) (p .octets));
+      tacit-read = λ κs. by-equation _;
+      tacit-initialization = λ κs. by-law _ (λ a r s p. both-same (p .answer) (p .octets));
+      tacit-capability = λ κs. by-law _ (λ a r s p. both-same (p .answer) (p .octets));
+      tacit-local-change = λ κs. by-law _ (λ a r s p. both-same (p .0 .answer) (both-same (p .0 .octets) (p .1)));
+      tacit-mismatch = λ κs. by-law _ (λ a r s p. both-same (p .answer) (p .octets));
+      tacit-hello = λ κs. by-law _ (λ a r s p. both-same (p .answer) (p .octets));
+      tacit-closed = λ κs. by-law _ (λ a r s p. both-same (p .answer) (p .octets));
+      tacit-permitted = λ κs. by-equation _;
+      tacit-permitted-kinds = λ κs. by-equation _;
+      tacit-why-not = λ κs. by-equation _;
+      tacit-retry-interval = λ κs. by-equation _;
+      tacit-sound = λ κs. by-equation _;
+      tacit-load = λ κs. by-equation _;
+      tacit-store = λ κs. by-law _ (λ a r s p. both-same (p .0) (p .1));
+      tacit-no-limits = by-equation _;
+      tacit-set-limit = by-equation _;
+      tacit-row-count = λ κs. by-equation _;
+      tacit-row-event = λ κs. by-law _ (λ a r s p. both-same (p .0) (both-same (p .1) (p .2)));
+    }
+
+pub all-determined : AllDetermined
+all-determined =
+    record {
+      sets = sets-determined;
+      kinds = kinds-determined;
+      octets = octets-determined;
+      area = area-determined;
+      lists = lists-determined;
+      message = message-determined;
+      session = session-determined;
+      records = record-determined;
+      row = row-determined;
+      tacit = tacit-determined;
+    }

@@ -1,0 +1,180 @@
+-- "Every public function promises something of its outcome, and the promise determines that outcome": of any two outcomes that a contract allows, what is
+-- handed back and every octet and session left in what was lent are equal. By crate, over the contracts as the check reads them. Assumes nothing.
+use denote.Ref.{now}
+use Rattle.choice.specs.Determined.{Determined, Determines, both}
+use Rattle.sets.proofs.has.Reads as sets-has
+use Rattle.sets.proofs.common.Reads as sets-common
+use Rattle.sets.proofs.union.Reads as sets-union
+use Rattle.sets.proofs.minus.Reads as sets-minus
+use Rattle.sets.proofs.numbered.Reads as sets-numbered
+use Rattle.sets.proofs.switched.Reads as sets-switched
+use Rattle.kinds.proofs.TaId.is_known.Reads as kinds-is-known
+use Rattle.kinds.proofs.TaId.is_in.Reads as kinds-is-in
+use Rattle.kinds.proofs.TaId.switched.Reads as kinds-switched
+use Rattle.kinds.proofs.SacApp.switched.Reads as kinds-app-switched
+use Rattle.kinds.proofs.opened.Reads as kinds-opened
+use Rattle.kinds.proofs.disables.Reads as kinds-disables
+use Rattle.octets.proofs.put.Reads as octets-put
+use Rattle.octets.proofs.put_at.Reads as octets-put-at
+use Rattle.octets.proofs.top_bit.Reads as octets-top-bit
+use Rattle.octets.proofs.read16.Reads as octets-read16
+use Rattle.octets.proofs.read32.Reads as octets-read32
+use Rattle.area.proofs.at16.Reads as area-at16
+use Rattle.area.proofs.read_area.Reads as area-read-area
+use Rattle.area.proofs.part_of.Reads as area-part-of
+use Rattle.lists.proofs.s_bit.Reads as lists-s-bit
+use Rattle.lists.proofs.tac_list.Reads as lists-tac-list
+use Rattle.lists.proofs.sac_list.Reads as lists-sac-list
+use Rattle.message.proofs.write.Reads as message-write
+use Rattle.session.proofs.Session.new.Reads as session-new
+use Rattle.session.proofs.Session.sound.Reads as session-sound
+use Rattle.session.proofs.Session.permitted_kinds.Reads as session-permitted-kinds
+use Rattle.session.proofs.Session.permission.Reads as session-permission
+use Rattle.session.proofs.Session.why_not.Reads as session-why-not
+use Rattle.session.proofs.Session.retry_interval.Reads as session-retry-interval
+use Rattle.session.proofs.Session.initialization.Reads as session-initialization
+use Rattle.session.proofs.Session.used.Reads as session-used
+use Rattle.session.proofs.Session.capability.Reads as session-capability
+use Rattle.session.proofs.Session.local_change.Reads as session-local-change
+use Rattle.session.proofs.Session.mismatch.Reads as session-mismatch
+use Rattle.session.proofs.Session.hello.Reads as session-hello
+use Rattle.session.proofs.Session.closed.Reads as session-closed
+use Rattle.session.proofs.Session.unknown.Reads as session-unknown
+use Rattle.session.proofs.Session.refused.Reads as session-refused
+use Rattle.session.proofs.Session.none.Reads as session-none
+use Rattle.record.proofs.stored_in.Reads as record-stored-in
+use Rattle.record.proofs.decoded.Reads as record-decoded
+use Rattle.record.proofs.carry.Reads as record-carry
+use Rattle.record.proofs.load.Reads as record-load
+use Rattle.record.proofs.store.Reads as record-store
+use Rattle.row.proofs.Limits.none.Reads as row-none
+use Rattle.row.proofs.Limits.limited.Reads as row-limited
+use Rattle.row.proofs.Tally.empty.Reads as row-empty
+use Rattle.row.proofs.Tally.tally.Reads as row-tally
+use Rattle.row.proofs.Tally.count_by.Reads as row-count-by
+use Rattle.row.proofs.event_in.Reads as row-event-in
+use Rattle.row.proofs.outside.Reads as row-outside
+use Rattle.row.proofs.uncounted.Reads as row-uncounted
+use Rattle.tacit.proofs.tacit_create.Reads as tacit-create
+use Rattle.tacit.proofs.tacit_read.Reads as tacit-read
+use Rattle.tacit.proofs.tacit_initialization.Reads as tacit-initialization
+use Rattle.tacit.proofs.tacit_capability.Reads as tacit-capability
+use Rattle.tacit.proofs.tacit_local_change.Reads as tacit-local-change
+use Rattle.tacit.proofs.tacit_mismatch.Reads as tacit-mismatch
+use Rattle.tacit.proofs.tacit_hello.Reads as tacit-hello
+use Rattle.tacit.proofs.tacit_closed.Reads as tacit-closed
+use Rattle.tacit.proofs.tacit_permitted.Reads as tacit-permitted
+use Rattle.tacit.proofs.tacit_permitted_kinds.Reads as tacit-permitted-kinds
+use Rattle.tacit.proofs.tacit_why_not.Reads as tacit-why-not
+use Rattle.tacit.proofs.tacit_retry_interval.Reads as tacit-retry-interval
+use Rattle.tacit.proofs.tacit_sound.Reads as tacit-sound
+use Rattle.tacit.proofs.tacit_load.Reads as tacit-load
+use Rattle.tacit.proofs.tacit_store.Reads as tacit-store
+use Rattle.tacit.proofs.tacit_no_limits.Reads as tacit-no-limits
+use Rattle.tacit.proofs.tacit_set_limit.Reads as tacit-set-limit
+use Rattle.promises.specs.Walked.{TallyOf, RowCount, RowEventCall}
+
+pub record SetsDetermined : Type 0 where
+  pub has : Determined (sets-has.Post tt)
+  pub common : Determined (sets-common.Post tt)
+  pub union : Determined (sets-union.Post tt)
+  pub minus : Determined (sets-minus.Post tt)
+  pub numbered : Determined (sets-numbered.Post tt)
+  pub switched : Determined (sets-switched.Post tt)
+
+pub record KindsDetermined : Type 0 where
+  pub is-known : Determined (kinds-is-known.Post tt)
+  pub is-in : Determined (kinds-is-in.Post tt)
+  pub switched : Determined (kinds-switched.Post tt)
+  pub app-switched : Determined (kinds-app-switched.Post tt)
+  pub opened : Determined (kinds-opened.Post tt)
+  pub disables : Determined (kinds-disables.Post tt)
+
+pub record OctetsDetermined : Type 0 where
+  pub put : (κs : _) → Determines (octets-put.Post κs) (λ r s. s .0 .now)
+  pub put-at : (κs : _) → Determines (octets-put-at.Post κs) (λ r s. s .0 .now)
+  pub top-bit : Determined (octets-top-bit.Post tt)
+  pub read16 : (κs : _) → Determined (octets-read16.Post κs)
+  pub read32 : (κs : _) → Determined (octets-read32.Post κs)
+
+pub record AreaDetermined : Type 0 where
+  pub at16 : (κs : _) → Determined (area-at16.Post κs)
+  pub read-area : (κs : _) → Determined (area-read-area.Post κs)
+  pub part-of : (κs : _) → Determines (area-part-of.Post κs) (λ r s. now r)
+
+pub record ListsDetermined : Type 0 where
+  pub s-bit : (κs : _) → Determined (lists-s-bit.Post κs)
+  pub tac-list : (κs : _) → Determined (lists-tac-list.Post κs)
+  pub sac-list : (κs : _) → Determined (lists-sac-list.Post κs)
+
+pub record MessageDetermined : Type 0 where
+  pub write : (κs : _) → Determines (message-write.Post κs) (λ r s. s .0 .now)
+
+pub record SessionDetermined : Type 0 where
+  pub new : Determined (session-new.Post tt)
+  pub sound : Determined (session-sound.Post tt)
+  pub permitted-kinds : Determined (session-permitted-kinds.Post tt)
+  pub permission : Determined (session-permission.Post tt)
+  pub why-not : Determined (session-why-not.Post tt)
+  pub retry-interval : Determined (session-retry-interval.Post tt)
+  pub initialization : (κs : _) → Determined (session-initialization.Post κs)
+  pub used : Determined (session-used.Post tt)
+  pub capability : (κs : _) → Determined (session-capability.Post κs)
+  pub local-change : Determined (session-local-change.Post tt)
+  pub mismatch : Determined (session-mismatch.Post tt)
+  pub hello : Determined (session-hello.Post tt)
+  pub closed : Determined (session-closed.Post tt)
+  pub unknown : Determined (session-unknown.Post tt)
+  pub refused : Determined (session-refused.Post tt)
+  pub none : Determined (session-none.Post tt)
+
+pub record RecordDetermined : Type 0 where
+  pub stored-in : (κs : _) → Determines (record-stored-in.Post κs) (λ r s. s .1 .0 .now)
+  pub decoded : (κs : _) → Determined (record-decoded.Post κs)
+  pub carry : (κs : _) → Determines (record-carry.Post κs) (λ r s. both r (s .0 .now))
+  pub load : (κs : _) → Determined (record-load.Post κs)
+  pub store : (κs : _) → Determines (record-store.Post κs) (λ r s. both r (s .1 .0 .now))
+
+pub record RowDetermined : Type 0 where
+  pub no-limits : Determined (row-none.Post tt)
+  pub limited : Determined (row-limited.Post tt)
+  pub empty : Determined (row-empty.Post tt)
+  pub tally : Determined (row-tally.Post tt)
+  pub count-by : Determined (row-count-by.Post tt)
+  pub event-in : (κs : _) → Determines (row-event-in.Post κs) (λ r s. both r (s .1 .1 .1 .1 .1 .0 .now))
+  pub outside : Determined (row-outside.Post tt)
+  pub uncounted : Determined (row-uncounted.Post tt)
+  pub tally-of : (κs : _) → Determined (TallyOf κs)
+
+pub record TacitDetermined : Type 0 where
+  pub tacit-create : (κs : _) → Determines (tacit-create.Post κs) (λ r s. both r (s .0 .now))
+  pub tacit-read : (κs : _) → Determined (tacit-read.Post κs)
+  pub tacit-initialization : (κs : _) → Determines (tacit-initialization.Post κs) (λ r s. both r (s .0 .now))
+  pub tacit-capability : (κs : _) → Determines (tacit-capability.Post κs) (λ r s. both r (s .0 .now))
+  pub tacit-local-change : (κs : _) → Determines (tacit-local-change.Post κs) (λ r s. both r (both (s .0 .now) (s .1 .1 .1 .0 .now)))
+  pub tacit-mismatch : (κs : _) → Determines (tacit-mismatch.Post κs) (λ r s. both r (s .0 .now))
+  pub tacit-hello : (κs : _) → Determines (tacit-hello.Post κs) (λ r s. both r (s .0 .now))
+  pub tacit-closed : (κs : _) → Determines (tacit-closed.Post κs) (λ r s. both r (s .0 .now))
+  pub tacit-permitted : (κs : _) → Determined (tacit-permitted.Post κs)
+  pub tacit-permitted-kinds : (κs : _) → Determined (tacit-permitted-kinds.Post κs)
+  pub tacit-why-not : (κs : _) → Determined (tacit-why-not.Post κs)
+  pub tacit-retry-interval : (κs : _) → Determined (tacit-retry-interval.Post κs)
+  pub tacit-sound : (κs : _) → Determined (tacit-sound.Post κs)
+  pub tacit-load : (κs : _) → Determined (tacit-load.Post κs)
+  pub tacit-store : (κs : _) → Determines (tacit-store.Post κs) (λ r s. both r (s .1 .0 .now))
+  pub tacit-no-limits : Determined (tacit-no-limits.Post tt)
+  pub tacit-set-limit : Determined (tacit-set-limit.Post tt)
+  pub tacit-row-count : (κs : _) → Determined (RowCount κs)
+  pub tacit-row-event : (κs : _) → Determines (RowEventCall κs) (λ r s. both r (both (s .0 .now) (s .1 .1 .1 .1 .1 .0 .now)))
+
+pub record AllDetermined : Type 0 where
+  pub sets : SetsDetermined
+  pub kinds : KindsDetermined
+  pub octets : OctetsDetermined
+  pub area : AreaDetermined
+  pub lists : ListsDetermined
+  pub message : MessageDetermined
+  pub session : SessionDetermined
+  pub records : RecordDetermined
+  pub row : RowDetermined
+  pub tacit : TacitDetermined
