@@ -125,6 +125,8 @@ static const struct row rows[] = {
       .first_number = 1}},
     {"permitted", "permitted, one kind", 10000, opened, &none, {.call = PERMITTED}},
     {"kinds", "permitted, all kinds", 10000, opened, &none, {.call = PERMITTED_KINDS}},
+    {"why-not", "why not, a permitted kind", 10000, opened, &none,
+     {.call = WHY_NOT, .kind = TACIT_KIND_GENERALIZED_PWID}},
     {"retry", "retry interval", 10000, opened, &none, {.call = RETRY_INTERVAL}},
     {"sound", "sound", 10000, opened, &none, {.call = SOUND}},
     {"row-init", "Initialization in a row of 64, six capability TLVs", 1000, ready, &six,

@@ -60,6 +60,23 @@ static void print_kinds(const char *title, uint32_t set)
     printf("%s\n", set == 0 ? " none" : "");
 }
 
+/* The kinds that may not be sent, and why, reason by reason. */
+static void print_kept_back(const uint8_t *record)
+{
+    for (uint32_t reason = TACIT_NOT_OPEN; reason <= TACIT_NOT_LISTED; reason++) {
+        uint32_t set = 0;
+        for (uint32_t kind = 0; kind <= 9; kind++)
+            if (tacit_why_not(record, TACIT_RECORD_LENGTH, kind).reason == reason)
+                set |= TACIT_KIND_SET(kind);
+        if (set == TACIT_ALL_KINDS)
+            printf("   %-13s every kind\n", "kept back");
+        else if (set != 0)
+            print_kinds("kept back", set);
+        if (set != 0)
+            printf("   %-13s %s\n", "  why", tacit_why_text(reason));
+    }
+}
+
 static void print_answer(struct tacit_answer answer)
 {
     if (answer.refusal != 0)
@@ -80,6 +97,7 @@ static uint32_t print_session(const char *name, const uint8_t *record)
            tacit_state_text(tacit_state(record, TACIT_RECORD_LENGTH)),
            tacit_retry_interval(record, TACIT_RECORD_LENGTH).interval);
     print_kinds("may be sent", kinds);
+    print_kept_back(record);
     return kinds;
 }
 
@@ -147,13 +165,13 @@ static size_t paired_by_position(uint8_t *pairs)
     return count;
 }
 
-/* The kinds that a session permits in which these alone are common. */
-static uint32_t kinds_with(const uint8_t *list, size_t count)
+/* West's session where of east's list these alone are read; the kinds that it permits. */
+static uint32_t open_with(uint8_t *record, const uint8_t *list, size_t count)
 {
-    uint8_t record[TACIT_RECORD_LENGTH];
-    tacit_create(record, sizeof record, true, true, true, false, 0, set_of(list, count), 1);
-    initialize(record, east_list, COUNT(east_list));
-    return tacit_permitted_kinds(record, sizeof record).kinds;
+    tacit_create(record, TACIT_RECORD_LENGTH, true, true, true, false, 0,
+                 set_of(west_list, COUNT(west_list)), 1);
+    initialize(record, list, count);
+    return tacit_permitted_kinds(record, TACIT_RECORD_LENGTH).kinds;
 }
 
 /* ---- The story ---- */
@@ -209,12 +227,17 @@ int main(void)
     uint8_t pairs[COUNT(west_list)];
     size_t paired = paired_by_position(pairs);
     print_applications("in common", pairs, paired);
-    uint32_t wrong = kinds_with(pairs, paired);
+    uint8_t misread[TACIT_RECORD_LENGTH];
+    uint32_t wrong = open_with(misread, pairs, paired);
     print_kinds("may be sent", wrong);
     print_kinds("KEPT BACK", right & ~wrong);
+    struct tacit_reason why =
+        tacit_why_not(misread, sizeof misread, TACIT_KIND_GENERALIZED_PWID);
+    printf("   %-13s %s\n", "  why", tacit_why_text(why.reason));
     puts("   Both boxes support these pseudowires. The session stays up, nothing is");
-    puts("   refused, and the circuits stay dark.");
+    puts("   refused, and the circuits stay dark. Nothing said why; tacit_why_not does.");
     expect((right & ~wrong) == pseudowires, "exactly the pseudowires are kept back");
+    expect(why.reason == TACIT_NOT_LISTED, "as if east had not listed them");
 
     step("East withdraws FEC 129 PW");
     answer = change(east, west, TACIT_APP_FEC129_PW, false, message);

@@ -123,6 +123,20 @@ enum tacit_state_number {
 };
 
 /*
+ * Why a kind of label may not be sent: the first of these, from 1 on, that is so.
+ * An application opens the kinds that stand beside it at enum tacit_application.
+ */
+enum tacit_why {
+    TACIT_PERMITTED        = 0,  /* none of them: it may be sent; also with every refusal */
+    TACIT_NOT_OPEN         = 1,  /* the session is not Open */
+    TACIT_DISABLED_BY_PEER = 2,  /* the peer has disabled the kind, by SAC */
+    TACIT_NOT_ENABLED      = 3,  /* negotiation is in force, and no application that opens the
+                                    kind is enabled here */
+    TACIT_NOT_LISTED       = 4   /* negotiation is in force, some application that opens the
+                                    kind is enabled here, and the peer lists none of these */
+};
+
+/*
  * Kinds of label. In a set of kinds, kind k is bit k. The four with an App can
  * be switched off by the peer with a SAC element of that App.
  */
@@ -232,6 +246,11 @@ struct tacit_permission {
     uint8_t permitted;  /* 1: labels of this kind may be sent */
 };
 
+struct tacit_reason {
+    uint8_t refusal;
+    uint8_t reason;  /* enum tacit_why */
+};
+
 struct tacit_kinds {
     uint8_t refusal;
     uint16_t kinds;  /* the set of kinds that may be sent */
@@ -321,6 +340,9 @@ TACIT_ASSERT(offsetof(struct tacit_answer, written) == 6);
 TACIT_ASSERT(sizeof(struct tacit_permission) == 2);
 TACIT_ASSERT(offsetof(struct tacit_permission, refusal) == 0);
 TACIT_ASSERT(offsetof(struct tacit_permission, permitted) == 1);
+TACIT_ASSERT(sizeof(struct tacit_reason) == 2);
+TACIT_ASSERT(offsetof(struct tacit_reason, refusal) == 0);
+TACIT_ASSERT(offsetof(struct tacit_reason, reason) == 1);
 TACIT_ASSERT(sizeof(struct tacit_kinds) == 4);
 TACIT_ASSERT(offsetof(struct tacit_kinds, refusal) == 0);
 TACIT_ASSERT(offsetof(struct tacit_kinds, kinds) == 2);
@@ -487,6 +509,15 @@ struct tacit_permission tacit_permitted(const uint8_t *record, size_t record_len
 
 /* All kinds at once: the set of those that tacit_permitted permits. Refusals: 10. */
 struct tacit_kinds tacit_permitted_kinds(const uint8_t *record, size_t record_len);
+
+/*
+ * Why may labels of this kind not be sent now? PERMITTED exactly where
+ * tacit_permitted permits the kind; else the first reason that is so, for a log or
+ * an operator who asks.
+ *
+ * Refusals: 10, 6. Refused, the reason says nothing: look at the refusal first.
+ */
+struct tacit_reason tacit_why_not(const uint8_t *record, size_t record_len, uint32_t kind);
 
 /*
  * The session setup retry interval of RFC 8223, for a log or for management. RFC
@@ -682,6 +713,18 @@ static inline const char *tacit_state_text(uint32_t state)
     case TACIT_OPEN: return "Open";
     case TACIT_HELD: return "Held";
     case TACIT_GONE: return "Gone";
+    default: return "unknown";
+    }
+}
+
+static inline const char *tacit_why_text(uint32_t reason)
+{
+    switch (reason) {
+    case TACIT_PERMITTED: return "permitted";
+    case TACIT_NOT_OPEN: return "session not Open";
+    case TACIT_DISABLED_BY_PEER: return "disabled by the peer";
+    case TACIT_NOT_ENABLED: return "no application that opens it is enabled here";
+    case TACIT_NOT_LISTED: return "no enabled application that opens it is listed by the peer";
     default: return "unknown";
     }
 }

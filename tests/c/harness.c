@@ -230,6 +230,25 @@ struct tacit_permission permitted(const struct record *record, uint32_t kind)
     return answer;
 }
 
+struct tacit_reason why_not(const struct record *record, uint32_t kind)
+{
+    uint8_t *lent = lend(RECORD, record->octets, record->length);
+    struct tacit_reason answer = tacit_why_not(lent, record->length, kind);
+    CHECK(same(lent, record->octets, record->length) && margin_kept(RECORD, record->length));
+    struct tacit_permission permission = tacit_permitted(lent, record->length, kind);
+    CHECK(answer.refusal == permission.refusal);
+    CHECK(answer.reason <= TACIT_NOT_LISTED);
+    if (answer.refusal != 0) {
+        CHECK(answer.reason == 0);
+        return answer;
+    }
+    CHECK((answer.reason == TACIT_PERMITTED) == (permission.permitted == 1));
+    CHECK((answer.reason == TACIT_NOT_OPEN) == (record->octets[4] != TACIT_OPEN));
+    if (answer.reason >= TACIT_NOT_ENABLED)
+        CHECK((record->octets[5] & TACIT_FLAG_IN_FORCE) != 0);
+    return answer;
+}
+
 struct tacit_kinds permitted_kinds(const struct record *record)
 {
     uint8_t *lent = lend(RECORD, record->octets, record->length);
@@ -239,8 +258,10 @@ struct tacit_kinds permitted_kinds(const struct record *record)
     CHECK((answer.kinds & ~TACIT_ALL_KINDS) == 0);
     if (state(record) != TACIT_OPEN)
         CHECK(answer.kinds == 0);
-    for (uint32_t kind = 0; kind <= 9; kind++)
+    for (uint32_t kind = 0; kind <= 9; kind++) {
         CHECK(permitted(record, kind).permitted == (answer.kinds >> kind & 1));
+        why_not(record, kind);
+    }
     return answer;
 }
 

@@ -77,6 +77,7 @@ struct tacit_answer hello(struct record *record, uint32_t number);
 struct tacit_answer closed(struct record *record);
 struct tacit_permission permitted(const struct record *record, uint32_t kind);
 struct tacit_kinds permitted_kinds(const struct record *record);
+struct tacit_reason why_not(const struct record *record, uint32_t kind);
 struct tacit_retry retry_interval(const struct record *record);
 bool sound(const struct record *record);
 uint8_t state(const struct record *record);

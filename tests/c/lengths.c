@@ -23,6 +23,7 @@ static void nothing_at_all(void)
     CHECK(tacit_closed(NULL, 0).refusal == 10);
     CHECK(tacit_permitted(NULL, 0, 0).refusal == 10);
     CHECK(tacit_permitted_kinds(NULL, 0).refusal == 10);
+    CHECK(tacit_why_not(NULL, 0, 0).refusal == 10);
     CHECK(tacit_retry_interval(NULL, 0).refusal == 10);
     CHECK(!tacit_sound(NULL, 0));
     CHECK(tacit_state(NULL, 0) == TACIT_NO_STATE);
@@ -71,6 +72,7 @@ static void records(void)
         CHECK(state(&original) == (right ? TACIT_OPEN : TACIT_NO_STATE));
         CHECK(permitted(&original, 8).refusal == wanted);
         CHECK(permitted_kinds(&original).refusal == wanted);
+        CHECK(why_not(&original, 8).refusal == wanted);
         CHECK(retry_interval(&original).refusal == wanted);
         CHECK(load(&original).refusal == wanted);
         struct record record = original;
@@ -278,6 +280,7 @@ static void beyond_32_bits(void)
     CHECK(tacit_state(record, more + right) == TACIT_NO_STATE);
     CHECK(tacit_permitted(record, more + right, 0).refusal == 10);
     CHECK(tacit_permitted_kinds(record, more + right).refusal == 10);
+    CHECK(tacit_why_not(record, more + right, 0).refusal == 10);
     CHECK(tacit_retry_interval(record, more + right).refusal == 10);
     CHECK(tacit_hello(record, more + right, 1).refusal == 10);
     CHECK(tacit_mismatch(record, more + right).refusal == 10);

@@ -55,6 +55,7 @@ static void kinds_of_label(void)
         struct tacit_permission answer = permitted(&record, kind);
         CHECK(answer.refusal == (kind <= 9 ? 0 : 6));
         CHECK(answer.permitted == (kind <= 9 ? 1 : 0));
+        CHECK(why_not(&record, kind).refusal == answer.refusal);
     }
 }
 
@@ -88,11 +89,13 @@ static void sets(void)
     }
 }
 
-/* The kinds that each application opens, alone and in common. */
+/* The kinds that each application opens, from TA-Id 1 on; 8 the protected ones. */
+static const uint16_t opens[14] = {0,     0x001, 0x002, 0x07C, 0x001, 0x002, 0x080,
+                                   0x100, 0x281, 0x000, 0x200, 0x07C, 0x001, 0x002};
+
+/* Alone and in common. */
 static void table(void)
 {
-    static const uint16_t opens[14] = {0,     0x001, 0x002, 0x07C, 0x001, 0x002, 0x080,
-                                       0x100, 0x281, 0x000, 0x200, 0x07C, 0x001, 0x002};
     for (uint32_t ours = 1; ours <= 13; ours++) {
         for (uint32_t theirs = 1; theirs <= 13; theirs++) {
             trying("ours %lu, the peer's %lu", (unsigned long)ours, (unsigned long)theirs);
@@ -102,6 +105,30 @@ static void table(void)
             struct tacit_answer answer = initialization(&record, area, sizeof area);
             CHECK(answer.outcome == (ours == theirs ? TACIT_DONE : TACIT_MISMATCH));
             CHECK(kinds(&record) == (ours == theirs ? opens[ours] : 0));
+        }
+    }
+}
+
+/* Beside 9, which opens no kind and is common, one application enabled, listed, both or neither. */
+static void reasons(void)
+{
+    for (uint32_t ta_id = 1; ta_id <= 13; ta_id++) {
+        for (unsigned sets = 0; sets < 4; sets++) {
+            bool enabled = (sets & 1) != 0, listed = (sets & 2) != 0;
+            struct tacit_session session = {TACIT_OPEN, 0x17, 0, APP(9), APP(9), opens[8], 0, 1};
+            session.enabled |= (uint16_t)(enabled ? APP(ta_id) : 0);
+            session.listed |= (uint16_t)(listed ? APP(ta_id) : 0);
+            struct record record = record_for(session);
+            for (uint32_t kind = 0; kind <= 9; kind++) {
+                trying("why not kind %lu, %lu enabled %d, listed %d", (unsigned long)kind,
+                       (unsigned long)ta_id, enabled, listed);
+                bool some = enabled && (opens[ta_id] >> kind & 1) != 0;
+                struct tacit_reason answer = why_not(&record, kind);
+                CHECK(answer.refusal == 0);
+                CHECK(answer.reason == (!some     ? TACIT_NOT_ENABLED
+                                        : !listed ? TACIT_NOT_LISTED
+                                                  : TACIT_PERMITTED));
+            }
         }
     }
 }
@@ -345,6 +372,7 @@ void numbers(void)
     test("kinds of all 32 bits", kinds_of_label);
     test("sets of all 32 bits", sets);
     test("the kinds that each application opens", table);
+    test("why, by what each application opens", reasons);
     test("TA-Ids of 16 bits in a list", listed);
     test("Hello numbers of all 32 bits", hellos);
     test("message numbers, and 0 after the last", message_numbers);

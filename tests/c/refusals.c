@@ -190,10 +190,14 @@ static void of_questions(void)
     CHECK(permitted(&record, 8).permitted == 1);
     CHECK(permitted(&record, 9).refusal == 0);
     CHECK(permitted(&record, 10).refusal == 6);
+    CHECK(why_not(&record, 9).refusal == 0);
+    CHECK(why_not(&record, 10).refusal == 6);
     record.octets[5] |= 0x80;
     CHECK(permitted(&record, 8).refusal == 10);
     CHECK(permitted(&record, 10).refusal == 10);
     CHECK(permitted_kinds(&record).refusal == 10);
+    CHECK(why_not(&record, 8).refusal == 10);
+    CHECK(why_not(&record, 10).refusal == 10);
     CHECK(retry_interval(&record).refusal == 10);
     CHECK(!sound(&record));
 }

@@ -182,6 +182,44 @@ static void common_without_kinds(void)
     CHECK(kinds(&record) == 0x2A5);
 }
 
+/* Why each kind may not be sent, a digit for each from kind 0 on. */
+static void why(void)
+{
+    static const struct {
+        const char *record;
+        const char *reasons;
+    } rows[] = {
+        /* Ready, Held, Gone. */
+        {"1400 0100 00 47 4800 0000 0000 00 00 05000000 01000000", "1111111111"},
+        {"1400 0100 02 47 4800 0000 0000 00 00 05000000 01000000", "1111111111"},
+        {"1400 0100 03 0F 4800 0000 0000 00 00 00000000 01000000", "1111111111"},
+        /* Open and not in force: what is enabled does not count, nor that nothing is listed. */
+        {"1400 0100 01 07 4800 0000 0000 00 00 00000000 01000000", "0000000000"},
+        {"1400 0100 01 07 0000 0000 0000 00 00 00000000 01000000", "0000000000"},
+        {"1400 0100 01 07 4800 0000 0000 09 00 00000000 01000000", "2000000020"},
+        /* In force, 4 and 7 enabled: the peer lists 4; 4 and 6; 4 and 7. */
+        {"1400 0100 01 17 4800 0800 0000 00 00 00000000 01000000", "0333333343"},
+        {"1400 0100 01 17 4800 2800 0000 00 00 00000000 01000000", "0333333343"},
+        {"1400 0100 01 17 4800 4800 0000 00 00 00000000 01000000", "0333333303"},
+        /* 1, 4 and 7 enabled: one that is listed is enough, 12 is not one of them. */
+        {"1400 0100 01 17 4900 0100 0000 00 00 00000000 01000000", "0333333343"},
+        {"1400 0100 01 17 4900 4008 0000 00 00 00000000 01000000", "4333333303"},
+        /* Disabled comes before not enabled and not listed. */
+        {"1400 0100 01 17 4800 0800 0000 0F 00 00000000 01000000", "2233333223"},
+        /* 8 and 9 enabled, kinds 0, 7 and 9 protected: the peer lists 8; 9, which opens none. */
+        {"1400 0100 01 17 8001 8000 8102 00 00 00000000 01000000", "0333333030"},
+        {"1400 0100 01 17 8001 0001 8102 00 00 00000000 01000000", "4333333434"},
+    };
+    for (size_t i = 0; i < sizeof rows / sizeof *rows; i++) {
+        struct record record = record_of(rows[i].record);
+        for (uint32_t kind = 0; kind <= 9; kind++) {
+            trying("why not kind %lu, record %s", (unsigned long)kind, rows[i].record);
+            struct tacit_reason answer = why_not(&record, kind);
+            CHECK(answer.refusal == 0 && answer.reason == rows[i].reasons[kind] - '0');
+        }
+    }
+}
+
 /* One rule of soundness after the other, kept and broken. */
 static void soundness(void)
 {
@@ -256,6 +294,7 @@ void rules(void)
 {
     test("soundness, row by row", soundness);
     test("SAC, row by row", sac);
+    test("why a kind may not be sent, row by row", why);
     test("TAC, row by row", tac);
     test("a list given up", given_up);
     test("a session without TAC", without_tac);

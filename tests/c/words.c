@@ -24,10 +24,12 @@ static void texts(void)
     expect_texts(tacit_refusal_text, 0, 12);
     expect_texts(tacit_outcome_text, 0, 3);
     expect_texts(tacit_state_text, 0, 3);
+    expect_texts(tacit_why_text, 0, 4);
     expect_texts(tacit_kind_text, 0, 9);
     expect_texts(tacit_application_text, 1, 13);
     CHECK(strcmp(tacit_refusal_text(12), "limit over 64") == 0);
     CHECK(strcmp(tacit_outcome_text(3), "at the limit") == 0);
+    CHECK(strcmp(tacit_why_text(2), "disabled by the peer") == 0);
     CHECK(strcmp(tacit_kind_text(8), "Generalized PWid") == 0);
     CHECK(strcmp(tacit_application_text(4), "LDPv4 Remote LFA") == 0);
 }
@@ -37,6 +39,8 @@ static void names(void)
 {
     CHECK(TACIT_REFUSED_ROW == 11 && TACIT_REFUSED_LIMIT == 12);
     CHECK(TACIT_AT_LIMIT == 3);
+    CHECK(TACIT_PERMITTED == 0 && TACIT_NOT_OPEN == 1 && TACIT_DISABLED_BY_PEER == 2);
+    CHECK(TACIT_NOT_ENABLED == 3 && TACIT_NOT_LISTED == 4);
     CHECK(TACIT_ROW_MOST == 64 && TACIT_LIMIT_MOST == 64 && TACIT_APPLICATIONS == 13);
     CHECK(TACIT_EVENT_INITIALIZATION == 0 && TACIT_EVENT_CAPABILITY == 1);
     CHECK(TACIT_EVENT_LOCAL_CHANGE == 2 && TACIT_EVENT_MISMATCH == 3);
@@ -56,6 +60,6 @@ static void states(void)
 void words(void)
 {
     test("texts for a log", texts);
-    test("numbers of rows by their names", names);
+    test("numbers by their names", names);
     test("the state of a record, for a log", states);
 }

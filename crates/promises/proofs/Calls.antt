@@ -80,6 +80,7 @@ calls-answer =
       tacit-read = λ κs a r s p. p;
       tacit-permitted = λ κs a r s p. p;
       tacit-permitted-kinds = λ κs a r s p. p;
+      tacit-why-not = λ κs a r s p. p;
       tacit-retry-interval = λ κs a r s p. p;
       tacit-sound = λ κs a r s p. p;
       tacit-load = λ κs a r s p. p;

@@ -26,11 +26,11 @@ use Rattle.promises.specs.Words.{Enables, Lists, Maps, Permits}
 use Rattle.promises.specs.Condition3.{Further, NeverLess, Condition3}
 
 -- ---- an application in a set, by its number and by its place
-in-set : (a n : ℕ) → 1 ≤ n → n ≤ applicationCount → has a (n - 1) ≡ true → isIn a n ≡ true
+pub in-set : (a n : ℕ) → 1 ≤ n → n ≤ applicationCount → has a (n - 1) ≡ true → isIn a n ≡ true
 unfolding isIn
 in-set a n l m h = and-both _ _ (is-numbered applicationCount n l m) h
 
-at-place : (a n : ℕ) → isIn a n ≡ true → ((1 ≤ n) × (n ≤ applicationCount)) × (has a (n - 1) ≡ true)
+pub at-place : (a n : ℕ) → isIn a n ≡ true → ((1 ≤ n) × (n ≤ applicationCount)) × (has a (n - 1) ≡ true)
 unfolding isIn
 at-place a n h = (numbered-is applicationCount n (and-first (knownApplication n) _ h), and-second (knownApplication n) _ h)
 

@@ -11,3 +11,4 @@ pub mod RowCalls
 pub mod RowRecords
 pub mod Creation
 pub mod Determined
+pub mod Why

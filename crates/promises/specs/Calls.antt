@@ -14,7 +14,7 @@ use Rattle.session.specs.Session.{isOpen, sound}
 use Rattle.session.specs.With.{fresh}
 use Rattle.session.specs.Creation.{roleFlags, created}
 use Rattle.session.specs.Events.{Event, Initialization, Capability, LocalChange, Mismatch, Hello, Closed, step, run, roomAfter}
-use Rattle.session.specs.Questions.{permission, permittedKinds, retryInterval}
+use Rattle.session.specs.Questions.{permission, permittedKinds, whyNot, retryInterval}
 use Rattle.area.specs.Area.{readArea}
 use Rattle.row.specs.Limiting.{noLimits, limited}
 use Rattle.row.specs.Row.{countOf}
@@ -32,6 +32,7 @@ use Rattle.tacit.proofs.tacit_closed.Reads as closed
 use Rattle.tacit.proofs.tacit_read.Reads as read
 use Rattle.tacit.proofs.tacit_permitted.Reads as permitted
 use Rattle.tacit.proofs.tacit_permitted_kinds.Reads as permitted-kinds
+use Rattle.tacit.proofs.tacit_why_not.Reads as why-not
 use Rattle.tacit.proofs.tacit_retry_interval.Reads as retry-interval
 use Rattle.tacit.proofs.tacit_sound.Reads as is-sound
 use Rattle.tacit.proofs.tacit_load.Reads as loaded
@@ -91,6 +92,7 @@ pub record CallsAnswer : Type 0 where
   pub tacit-read : (κs : _) (a r s : _) → read.Post κs a r s → r ≡ readArea (a .0 .now)
   pub tacit-permitted : (κs : _) (a r s : _) → permitted.Post κs a r s → r ≡ permission (decoded (a .0 .now)) (a .1 .0)
   pub tacit-permitted-kinds : (κs : _) (a r s : _) → permitted-kinds.Post κs a r s → r ≡ permittedKinds (decoded (a .0 .now))
+  pub tacit-why-not : (κs : _) (a r s : _) → why-not.Post κs a r s → r ≡ whyNot (decoded (a .0 .now)) (a .1 .0)
   pub tacit-retry-interval : (κs : _) (a r s : _) → retry-interval.Post κs a r s → r ≡ retryInterval (decoded (a .0 .now))
   pub tacit-sound : (κs : _) (a r s : _) → is-sound.Post κs a r s → r ≡ sound (decoded (a .0 .now))
   pub tacit-load : (κs : _) (a r s : _) → loaded.Post κs a r s → r ≡ load (a .0 .now)

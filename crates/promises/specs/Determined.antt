@@ -30,6 +30,7 @@ use Rattle.session.proofs.Session.new.Reads as session-new
 use Rattle.session.proofs.Session.sound.Reads as session-sound
 use Rattle.session.proofs.Session.permitted_kinds.Reads as session-permitted-kinds
 use Rattle.session.proofs.Session.permission.Reads as session-permission
+use Rattle.session.proofs.Session.why_not.Reads as session-why-not
 use Rattle.session.proofs.Session.retry_interval.Reads as session-retry-interval
 use Rattle.session.proofs.Session.initialization.Reads as session-initialization
 use Rattle.session.proofs.Session.used.Reads as session-used
@@ -64,6 +65,7 @@ use Rattle.tacit.proofs.tacit_hello.Reads as tacit-hello
 use Rattle.tacit.proofs.tacit_closed.Reads as tacit-closed
 use Rattle.tacit.proofs.tacit_permitted.Reads as tacit-permitted
 use Rattle.tacit.proofs.tacit_permitted_kinds.Reads as tacit-permitted-kinds
+use Rattle.tacit.proofs.tacit_why_not.Reads as tacit-why-not
 use Rattle.tacit.proofs.tacit_retry_interval.Reads as tacit-retry-interval
 use Rattle.tacit.proofs.tacit_sound.Reads as tacit-sound
 use Rattle.tacit.proofs.tacit_load.Reads as tacit-load
@@ -113,6 +115,7 @@ pub record SessionDetermined : Type 0 where
   pub sound : Determined (session-sound.Post tt)
   pub permitted-kinds : Determined (session-permitted-kinds.Post tt)
   pub permission : Determined (session-permission.Post tt)
+  pub why-not : Determined (session-why-not.Post tt)
   pub retry-interval : Determined (session-retry-interval.Post tt)
   pub initialization : (κs : _) → Determined (session-initialization.Post κs)
   pub used : Determined (session-used.Post tt)
@@ -154,6 +157,7 @@ pub record TacitDetermined : Type 0 where
   pub tacit-closed : (κs : _) → Determines (tacit-closed.Post κs) (λ r s. both r (s .0 .now))
   pub tacit-permitted : (κs : _) → Determined (tacit-permitted.Post κs)
   pub tacit-permitted-kinds : (κs : _) → Determined (tacit-permitted-kinds.Post κs)
+  pub tacit-why-not : (κs : _) → Determined (tacit-why-not.Post κs)
   pub tacit-retry-interval : (κs : _) → Determined (tacit-retry-interval.Post κs)
   pub tacit-sound : (κs : _) → Determined (tacit-sound.Post κs)
   pub tacit-load : (κs : _) → Determined (tacit-load.Post κs)

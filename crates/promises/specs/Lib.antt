@@ -9,6 +9,7 @@ pub mod Rows
 pub mod RowCondition3
 pub mod RowCalls
 pub mod RowRecords
+pub mod Why
 pub mod Examples
 pub mod RowExamples
 pub mod Determined

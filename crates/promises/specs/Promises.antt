@@ -16,6 +16,7 @@ use Rattle.promises.specs.RowCondition3.{RowCondition3}
 use Rattle.promises.specs.RowCalls.{RowCallsAreEvents, RowCallsFollow, RowCallsCondition3}
 use Rattle.promises.specs.RowRecords.{NarrowOverRows, RowIsRun, RowRecordsFollow}
 use Rattle.promises.specs.Examples.{Examples, WhyItStops, WhyAtThatMoment, FurtherKind}
+use Rattle.promises.specs.Why.{WhyNot}
 use Rattle.promises.specs.RowExamples.{RowExamples, WhyTheOneSession}
 use Rattle.promises.specs.Determined.{AllDetermined}
 
@@ -72,6 +73,7 @@ pub record Promises : Type 0 where
   pub narrow-over-rows : NarrowOverRows
   pub row-is-run : RowIsRun
   pub row-records-follow : RowRecordsFollow
+  pub why-not : WhyNot
   -- computed
   pub examples : Examples
   pub why-it-stops : WhyItStops

@@ -70,6 +70,13 @@ pub struct Kinds {
     pub kinds: u16,
 }
 
+// Why a kind may not be sent.
+#[repr(C)]
+pub struct Reason {
+    pub refusal: u8,
+    pub reason: u8,
+}
+
 // The retry interval.
 #[repr(C)]
 pub struct Retry {

@@ -1,13 +1,25 @@
 // The questions that change nothing. A session that is not sound is refused with 10.
 ghost use mathlib.Core.Path.{_≡_};
-ghost use Rattle.session.specs.Questions.{permittedKinds, permission, retryInterval};
+ghost use Rattle.session.specs.Questions.{permittedKinds, permission, unopened, why, whyNot, retryInterval};
 use crate::Kinds;
 use crate::Permission;
+use crate::Reason;
 use crate::Retry;
 use crate::Session;
 
 impl Session {
     const INTERVAL_IN_HELD: u16 = 65535;
+
+    // Why a kind may not be sent.
+    const PERMITTED: u8 = 0;
+
+    const NOT_OPEN: u8 = 1;
+
+    const DISABLED_BY_PEER: u8 = 2;
+
+    const NOT_ENABLED: u8 = 3;
+
+    const NOT_LISTED: u8 = 4;
 
     // The set of the kinds that may be sent.
     pub fn permitted_kinds(self) -> Kinds
@@ -50,6 +62,57 @@ impl Session {
         Permission {
             refusal: refusals::NOT_SOUND,
             permitted: 0,
+        }
+    }
+
+    // Negotiation is in force and none of these applications opens the kind.
+    fn unopened(self, applications: u16, kind: u16) -> bool
+        ensures { λ r. ⌜ r ≡ unopened self applications kind ⌝ }
+    {
+        if self.in_force() {
+            return !sets::has(kinds::opened(applications, self.protects), kind);
+        }
+        false
+    }
+
+    // The first of the reasons that holds.
+    fn why(self, kind: u16) -> u8
+        ensures { λ r. ⌜ r ≡ why self kind ⌝ }
+    {
+        if !self.is_open() {
+            return Self::NOT_OPEN;
+        }
+        if sets::has(kinds::disables(self.disabled), kind) {
+            return Self::DISABLED_BY_PEER;
+        }
+        if self.unopened(self.enabled, kind) {
+            return Self::NOT_ENABLED;
+        }
+        if self.unopened(self.negotiated(), kind) {
+            return Self::NOT_LISTED;
+        }
+        Self::PERMITTED
+    }
+
+    // Why one kind may not be sent.
+    pub fn why_not(self, kind: u32) -> Reason
+        ensures { λ r. ⌜ r ≡ whyNot self kind ⌝ }
+    {
+        if self.sound() {
+            if kind < kinds::KIND_COUNT {
+                return Reason {
+                    refusal: refusals::NOT_REFUSED,
+                    reason: self.why(kind as u16),
+                };
+            }
+            return Reason {
+                refusal: refusals::OUT_OF_RANGE,
+                reason: Self::PERMITTED,
+            };
+        }
+        Reason {
+            refusal: refusals::NOT_SOUND,
+            reason: Self::PERMITTED,
         }
     }
 

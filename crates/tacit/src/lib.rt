@@ -7,7 +7,7 @@ ghost use Rattle.area.specs.Area.{readArea};
 ghost use Rattle.session.specs.Session.{sound};
 ghost use Rattle.session.specs.Creation.{roleFlags, created};
 ghost use Rattle.session.specs.Events.{Initialization, Capability, LocalChange, Mismatch, Hello, Closed, step, roomAfter};
-ghost use Rattle.session.specs.Questions.{permittedKinds, permission, retryInterval};
+ghost use Rattle.session.specs.Questions.{permittedKinds, permission, whyNot, retryInterval};
 ghost use Rattle.record.specs.Record.{decoded};
 ghost use Rattle.record.specs.Carried.{Carried};
 ghost use Rattle.record.specs.Loaded.{load, storeRefusal, storeOctets};
@@ -26,6 +26,7 @@ use session::Answer;
 use session::Created;
 use session::Kinds;
 use session::Permission;
+use session::Reason;
 use session::Retry;
 use session::Session;
 
@@ -155,6 +156,13 @@ pub extern "C" fn tacit_permitted_kinds(lent: &[u8]) -> Kinds
     ensures { λ r. ⌜ r ≡ permittedKinds (decoded (now (lent .entry))) ⌝ }
 {
     record::decoded(lent).permitted_kinds()
+}
+
+#[no_mangle]
+pub extern "C" fn tacit_why_not(lent: &[u8], kind: u32) -> Reason
+    ensures { λ r. ⌜ r ≡ whyNot (decoded (now (lent .entry))) kind ⌝ }
+{
+    record::decoded(lent).why_not(kind)
 }
 
 #[no_mangle]

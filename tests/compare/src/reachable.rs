@@ -55,6 +55,7 @@ pub fn reachable() -> BTreeSet<Item> {
         add("sound", state, Note("sound"));
     }
     add("permitted", Open, Note("permitted"));
+    reasons(&mut add);
     add("sound", Unsound, Note("not sound"));
     kinds_and_retry(&mut add, "permitted_kinds", "retry_interval");
     rows_and_limits(&mut add);
@@ -62,6 +63,24 @@ pub fn reachable() -> BTreeSet<Item> {
         add("long list", Place::None, Note(note));
     }
     items
+}
+
+fn reasons(add: &mut Add) {
+    add("why_not", Unsound, Refusal(10));
+    for state in STATES {
+        add("why_not", state, Refusal(6));
+    }
+    for state in [Ready, Held, Gone] {
+        add("why_not", state, Note("not Open"));
+    }
+    for note in [
+        "permitted",
+        "disabled by the peer",
+        "not enabled",
+        "not listed",
+    ] {
+        add("why_not", Open, Note(note));
+    }
 }
 
 fn kinds_and_retry(add: &mut Add, kinds: &'static str, retry: &'static str) {

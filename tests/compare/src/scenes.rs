@@ -127,6 +127,7 @@ const ON_RECORD: &[(Which, [usize; 5])] = &[
     (Which::PermittedKinds, [4, 4, 4, 4, 4]),
     (Which::RetryInterval, [3, 4, 3, 8, 8]),
     (Which::Sound, [5, 4, 3, 4, 4]),
+    (Which::WhyNot, [6, 4, 6, 4, 4]),
 ];
 
 /// A call on a record of any sort.

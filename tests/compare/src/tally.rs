@@ -170,6 +170,14 @@ impl Tally {
                     _ => "permitted",
                 }))
             }
+            Said::Reason(answer) if answer.refusal == 0 => met(What::Note(match answer.reason {
+                0 => "permitted",
+                1 => "not Open",
+                2 => "disabled by the peer",
+                3 => "not enabled",
+                4 => "not listed",
+                _ => "some other reason",
+            })),
             Said::Kinds(answer) if answer.refusal == 0 => met(What::Note(match answer.kinds {
                 0 => "no kinds",
                 ALL_KINDS => "all kinds",

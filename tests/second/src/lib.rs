@@ -91,6 +91,14 @@ pub struct Permission {
     pub permitted: u8,
 }
 
+/// Why one kind may not be sent. After a refusal the reason is 0.
+#[derive(Clone, Copy, Debug, Default, PartialEq, Eq)]
+#[repr(C)]
+pub struct Reason {
+    pub refusal: u8,
+    pub reason: u8,
+}
+
 /// All the kinds that may be sent, kind k at bit k.
 #[derive(Clone, Copy, Debug, Default, PartialEq, Eq)]
 #[repr(C)]
@@ -233,6 +241,24 @@ pub fn permitted(record: &[u8], kind: u32) -> Permission {
         Err(refusal) => Permission {
             refusal: refusal.number(),
             permitted: 0,
+        },
+    }
+}
+
+/// Why may labels of this kind not be sent?
+pub fn why_not(record: &[u8], kind: u32) -> Reason {
+    let reason = record::decode(record).and_then(|session| match Kind::from_number(kind) {
+        Some(kind) => Ok(session.why_not(kind)),
+        None => Err(Refusal::OutOfRange),
+    });
+    match reason {
+        Ok(why) => Reason {
+            refusal: 0,
+            reason: why as u8,
+        },
+        Err(refusal) => Reason {
+            refusal: refusal.number(),
+            reason: 0,
         },
     }
 }

@@ -1,7 +1,7 @@
 //! The lists that a peer sends: sets of applications and of controls, and the
 //! elements of TAC and SAC values that change them.
 
-use crate::kinds::{Application, Control, KindSet};
+use crate::kinds::{Application, Control, Kind, KindSet};
 
 /// A set of targeted applications, TA-Id n at bit n-1.
 #[derive(Clone, Copy, Debug, Default, PartialEq, Eq)]
@@ -123,6 +123,13 @@ impl ControlSet {
         } else {
             self.0 &= !bit;
         }
+    }
+
+    /// Is this kind one that some control of the set closes?
+    pub fn disables(self, kind: Kind) -> bool {
+        Control::ALL
+            .into_iter()
+            .any(|control| control.kind() == kind && self.0 & (1 << (control as u8 - 1)) != 0)
     }
 
     /// Every kind that some control of the set closes.

@@ -1,6 +1,6 @@
 //! A targeted session and what can be asked of it.
 
-use crate::kinds::{Application, KindSet};
+use crate::kinds::{Application, Kind, KindSet};
 use crate::lists::{ApplicationSet, ControlSet};
 
 #[derive(Clone, Copy, Debug, PartialEq, Eq)]
@@ -13,6 +13,19 @@ pub(crate) enum State {
     Held,
     /// After a mismatch, the adjacency is torn down.
     Gone,
+}
+
+/// Why a kind may not be sent, with its number.
+#[derive(Clone, Copy, Debug, PartialEq, Eq)]
+pub(crate) enum Why {
+    /// It may be sent.
+    Permitted = 0,
+    NotOpen = 1,
+    DisabledByPeer = 2,
+    /// Negotiation is in force, and no application for it is enabled here.
+    NotEnabled = 3,
+    /// Some is enabled here, and the peer lists none of these.
+    NotListed = 4,
 }
 
 /// What is settled once and for all at creation.
@@ -66,6 +79,34 @@ impl Session {
             None => KindSet::ALL,
         };
         open.without(self.peer.disabled.closes())
+    }
+
+    /// Why labels of this kind may not be sent now: application by application,
+    /// and the first reason that there is.
+    pub fn why_not(&self, kind: Kind) -> Why {
+        let State::Open = self.state else {
+            return Why::NotOpen;
+        };
+        if self.peer.disabled.disables(kind) {
+            return Why::DisabledByPeer;
+        }
+        let Some(listed) = self.peer.listed else {
+            return Why::Permitted;
+        };
+        let opens =
+            |application: &Application| application.opens(self.settings.protected).contains(kind);
+        let mut enabled = Application::ALL
+            .into_iter()
+            .filter(|&one| self.enabled.contains(one))
+            .filter(opens)
+            .peekable();
+        if enabled.peek().is_none() {
+            return Why::NotEnabled;
+        }
+        if enabled.any(|application| listed.contains(application)) {
+            return Why::Permitted;
+        }
+        Why::NotListed
     }
 
     /// Do the two lists leave anything to talk about? Without negotiation in

@@ -19,6 +19,7 @@ use Rattle.promises.proofs.RowCalls.{row-calls-are-events, row-calls-fo
 use Rattle.promises.proofs.RowRecords.{narrow-over-rows, row-is-run, row-records-follow}
 use Rattle.promises.proofs.Examples.{examples, why-it-stops, why-at-that-moment, further-kind, row-examples, why-the-one-session}
 use Rattle.promises.proofs.Determined.{all-determined}
+use Rattle.promises.proofs.Why.{why-not}
 use Rattle.promises.proofs.kept.Statement.{statement}
 use Rattle.promises.proofs.kept.Tie as tie
 
@@ -72,6 +73,7 @@ returns c =
       narrow-over-rows = narrow-over-rows;
       row-is-run = row-is-run;
       row-records-follow = row-records-follow;
+      why-not = why-not;
       examples = examples;
       why-it-stops = why-it-stops;
       why-at-that-moment = why-at-that-moment;

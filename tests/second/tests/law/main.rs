@@ -9,6 +9,7 @@ mod rfc;
 mod rows;
 mod states;
 mod stored;
+mod why;
 mod widening;
 
 use second::*;
@@ -161,7 +162,18 @@ impl Box22 {
         u32::from_le_bytes(self.0[18..22].try_into().unwrap())
     }
 
-    /// The permitted kinds, asked one by one and all at once.
+    /// Why each kind may not be sent, a digit for each from kind 0 on.
+    pub fn why(&self) -> String {
+        (0..10)
+            .map(|kind| {
+                let answer = why_not(&self.0, kind);
+                assert_eq!(answer.refusal, 0);
+                char::from(b'0' + answer.reason)
+            })
+            .collect()
+    }
+
+    /// The permitted kinds, asked one by one and all at once; why says the same.
     pub fn permitted(&self) -> u16 {
         let all = permitted_kinds(&self.0);
         assert_eq!(all.refusal, 0);
@@ -169,6 +181,8 @@ impl Box22 {
             let one = permitted(&self.0, kind);
             assert_eq!(one.refusal, 0);
             assert_eq!(u16::from(one.permitted), all.kinds >> kind & 1);
+            let why = why_not(&self.0, kind);
+            assert_eq!((why.refusal, why.reason == 0), (0, one.permitted == 1));
         }
         all.kinds
     }
