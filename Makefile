@@ -13,7 +13,7 @@ library := $(TACIT_LIB_DIR)/libtacit.a
 here    := TACIT_LIB_DIR="$(abspath $(TACIT_LIB_DIR))"
 proved  := crates.txt $(shell find crates -name '*.rt' -o -name '*.antt' 2>/dev/null)
 
-.PHONY: all help install demo test c-test compare mutants second clean always
+.PHONY: all help install demo test c-test compare mutants mutants-few second clean always
 .DELETE_ON_ERROR:
 
 all: $(library) build/tacit.h build/tacit.pc
@@ -26,7 +26,7 @@ help:
 	@echo "make test       the gate: c-test, second and compare, then every crate proved from nothing"
 	@echo "make c-test     check the library through C: tests, sanitizers, header, demos"
 	@echo "make compare    the library against the second implementation; CALLS=$(CALLS) SEED=$(SEED)"
-	@echo "make mutants    break the second implementation rule by rule; each must be noticed"
+	@echo "make mutants    break the second implementation rule by rule; each must be noticed; MUTANTS=names for some"
 	@echo "make coverage   how much of the library's code such a comparison runs, by function"
 	@echo "make second     the second implementation's own tests"
 	@echo "make fuzz       the two on inputs that a fuzzer makes; SECONDS=60"
@@ -89,7 +89,13 @@ compare: $(library)
 	@cd tests/compare && cargo run --release --offline -- --calls $(CALLS) --seed $(SEED)
 
 mutants: $(library)
-	@$(here) tests/mutants/run --calls $(CALLS) --seed $(SEED)
+	@$(here) tests/mutants/run --calls $(CALLS) --seed $(SEED) $(MUTANTS)
+
+# For the gate: one rule of each part, and one fault of the library.
+few := area-3-before-5 tac-by-position permitted-despite-sac change-9-not-asked at-limit-never \
+       record-lists-swapped row-another-touched library-writes-behind
+mutants-few: $(library)
+	@$(here) tests/mutants/run --calls 100000 --seed $(SEED) $(few)
 
 second:
 	cd tests/second && cargo test --offline
