@@ -22,7 +22,7 @@ all: $(library) build/tacit.h build/tacit.pc
 help:
 	@echo "make            prove the library and build it: build/libtacit.a, tacit.h, tacit.pc"
 	@echo "make install    put these below PREFIX ($(PREFIX)), below DESTDIR if it is set"
-	@echo "make demo       run examples/friday.c, the incident replayed in words, and ring.c, a night with limits"
+	@echo "make demo       run examples/: friday.c, the incident replayed in words, ring.c, a night with limits, daemon.c, a daemon in small"
 	@echo "make test       the gate: c-test, second and compare, then every crate proved from nothing"
 	@echo "make c-test     check the library through C: tests, sanitizers, header, demos"
 	@echo "make compare    the library against the second implementation; CALLS=$(CALLS) SEED=$(SEED)"
@@ -72,11 +72,10 @@ install: $(library)
 
 demo: $(library)
 	@mkdir -p build
-	@$(here) tests/c/host cc -std=c11 -O2 -Wall -Wextra -Iinclude -o build/friday examples/friday.c "$(library)"
-	@$(here) tests/c/host cc -std=c11 -O2 -Wall -Wextra -Iinclude -o build/ring examples/ring.c "$(library)"
-	@$(here) tests/c/host run build/friday
-	@echo
-	@$(here) tests/c/host run build/ring
+	@for each in friday ring daemon; do \
+	    $(here) tests/c/host cc -std=c11 -O2 -Wall -Wextra -Iinclude -o build/$$each examples/$$each.c "$(library)" && \
+	    echo && $(here) tests/c/host run build/$$each || exit 1; \
+	done
 
 test:
 	bash .ci/run
