@@ -63,6 +63,10 @@ extern "C" {
 /* Numbers                                                                   */
 /* ------------------------------------------------------------------------ */
 
+/* The version of this header and its library, to be compared, and for a log. */
+#define TACIT_VERSION      10200 /* 1.2.0: two digits for each number behind the first */
+#define TACIT_VERSION_TEXT "1.2.0"
+
 #define TACIT_RECORD_LENGTH  22   /* octets of a record */
 #define TACIT_MESSAGE_LENGTH 17   /* octets of a message that we write */
 #define TACIT_MESSAGE_AREA    8   /* where in it the parameter area starts, to its end */

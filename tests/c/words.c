@@ -149,6 +149,14 @@ static void answer_cut(void)
     }
 }
 
+static void version(void)
+{
+    char text[32];
+    snprintf(text, sizeof text, "%d.%d.%d", TACIT_VERSION / 10000, TACIT_VERSION / 100 % 100,
+             TACIT_VERSION % 100);
+    CHECK(strcmp(text, TACIT_VERSION_TEXT) == 0);
+}
+
 static void states(void)
 {
     struct record record = fresh(0);
@@ -167,5 +175,6 @@ void words(void)
     test("one line for every kind and every number of octets", answer_sets);
     test("one line cut at every length", answer_cut);
     test("numbers of rows by their names", names);
+    test("the version as a number and as a text", version);
     test("the state of a record, for a log", states);
 }
