@@ -39,10 +39,14 @@ help:
 
 # Of what rt says, a line for each crate that is proved.
 define shown
-/^fn .*: proved/                { functions++ }
-/^rt: [a-z]+ proved/            { crate = $$2; sub(/^[^(]*/, ""); show(crate, $$0) }
-/^rt: target\/staticlib\/lib/   { show("tacit", "") }
-function show(crate, how)       { printf "   %-9s proved, %d functions %s\n", crate, functions, how; functions = 0; fflush() }
+/^fn .*: proved/              { functions++ }
+/^rt: [a-z]+ proved/          { crate = $$2; sub(/^[^(]*/, " "); show(crate, $$0) }
+/^rt: target\/staticlib\/lib/ { show("tacit", "") }
+function show(crate, how) {
+    printf "   %-9s proved%s%s\n", crate, functions ? ": " functions " functions" : "", how
+    functions = 0
+    fflush()
+}
 endef
 export shown
 
