@@ -279,9 +279,11 @@ static void notify(struct end *end, uint32_t status, const uint8_t *fault)
         memcpy(tlv + 12, fault, 2);
     }
     add(&message, tlv, sizeof tlv);
-    snprintf(name, sizeof name, "Notification 0x%08lX", (unsigned long)status);
+    bool fatal = (status & FATAL) != 0;
+    snprintf(name, sizeof name, "Notification 0x%08lX%s", (unsigned long)(status & STATUS_CODE),
+             fatal ? ", fatal" : "");
     send_message(end, name, &message);
-    if ((status & FATAL) != 0)
+    if (fatal)
         hang_up_when_sent(end);
 }
 
