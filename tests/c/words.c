@@ -44,6 +44,24 @@ static void names(void)
     CHECK(TACIT_EVENT_HELLO == 4 && TACIT_EVENT_CLOSED == 5);
 }
 
+static void states(void)
+{
+    struct record record = fresh(0);
+    CHECK(state(&record) == TACIT_READY);
+    record.octets[4] = 4;
+    CHECK(state(&record) == TACIT_NO_STATE);
+    CHECK(strcmp(tacit_state_text(state(&record)), "unknown") == 0);
+    CHECK(strcmp(tacit_state_text(load(&record).session.state), "unknown") == 0);
+}
+
+static void version(void)
+{
+    char text[32];
+    snprintf(text, sizeof text, "%d.%d.%d", TACIT_VERSION / 10000, TACIT_VERSION / 100 % 100,
+             TACIT_VERSION % 100);
+    CHECK(strcmp(text, TACIT_VERSION_TEXT) == 0);
+}
+
 /* ---- One line for an answer ---- */
 
 #define LINE_MOST 600 /* more than any line has */
@@ -149,32 +167,14 @@ static void answer_cut(void)
     }
 }
 
-static void version(void)
-{
-    char text[32];
-    snprintf(text, sizeof text, "%d.%d.%d", TACIT_VERSION / 10000, TACIT_VERSION / 100 % 100,
-             TACIT_VERSION % 100);
-    CHECK(strcmp(text, TACIT_VERSION_TEXT) == 0);
-}
-
-static void states(void)
-{
-    struct record record = fresh(0);
-    CHECK(state(&record) == TACIT_READY);
-    record.octets[4] = 4;
-    CHECK(state(&record) == TACIT_NO_STATE);
-    CHECK(strcmp(tacit_state_text(state(&record)), "unknown") == 0);
-    CHECK(strcmp(tacit_state_text(load(&record).session.state), "unknown") == 0);
-}
-
 void words(void)
 {
     test("texts for a log", texts);
+    test("numbers of rows by their names", names);
+    test("the state of a record, for a log", states);
+    test("the version as a number and as a text", version);
     test("one line for an answer", answer_lines);
     test("one line for every refusal and outcome", answer_numbers);
     test("one line for every kind and every number of octets", answer_sets);
     test("one line cut at every length", answer_cut);
-    test("numbers of rows by their names", names);
-    test("the version as a number and as a text", version);
-    test("the state of a record, for a log", states);
 }
