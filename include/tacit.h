@@ -8,6 +8,9 @@
  * made at this end. TCP, timers, Hello and Notification octets, the PDU header,
  * addresses and the label database stay with the daemon.
  *
+ * This is the manual of the calls. docs/DAEMON.md says how a daemon drives them
+ * from discovery to close, and what the RFCs ask of the part that stays with it.
+ *
  * The session is a record of 22 octets that you own. You create it, hand it to
  * every call, and may store it or copy it as you like. The library keeps
  * nothing between calls, allocates nothing and calls nothing, not even libc.
@@ -118,7 +121,7 @@ enum tacit_outcome {
 enum tacit_state_number {
     TACIT_READY    = 0,   /* waiting for an Initialization */
     TACIT_OPEN     = 1,   /* labels may be sent */
-    TACIT_HELD     = 2,   /* after a mismatch: wait for a change at either end */
+    TACIT_HELD     = 2,   /* after a mismatch, until a change at either end */
     TACIT_GONE     = 3,   /* after a mismatch: the adjacency is to be torn down */
     TACIT_NO_STATE = 255  /* tacit_state of a record that is not sound */
 };
@@ -240,7 +243,7 @@ struct tacit_kinds {
 
 struct tacit_retry {
     uint8_t refusal;
-    uint16_t interval;  /* 65,535, the longest there is, in Held; 0 in every other state */
+    uint16_t interval;  /* in seconds: 65,535 in Held, 0 in every other state */
 };
 
 /*
@@ -405,8 +408,9 @@ uint8_t tacit_create(uint8_t *record, size_t record_len, bool initiating, bool a
  *
  * MISMATCH: negotiation is in force and no application is both enabled here and
  * listed by the peer. Send the Notification and close the connection; then go
- * by the state. Held: do not try again before tacit_retry_interval or a change.
- * Gone: tear down the adjacency. Ready, at a passive end: wait for the peer.
+ * by the state. Held: open no connection until it is Ready again, by a change at
+ * this end or a higher Hello number; waiting does not end it. Gone: tear down the
+ * adjacency. Ready, at a passive end: wait for the peer.
  *
  * Refusals: 10, 7, 1; then TLV by TLV from the left, for each 2, 4, 5, 3.
  * One bad TLV refuses the message; nothing of it is applied.
@@ -488,7 +492,15 @@ struct tacit_permission tacit_permitted(const uint8_t *record, size_t record_len
 /* All kinds at once: the set of those that tacit_permitted permits. Refusals: 10. */
 struct tacit_kinds tacit_permitted_kinds(const uint8_t *record, size_t record_len);
 
-/* How long to wait before the next attempt at a session. Refusals: 10. */
+/*
+ * The session setup retry interval of RFC 8223, for a log or for management. RFC
+ * 8223 names no unit; read it in seconds, as RFC 5036 counts its delays.
+ *
+ * 65,535: make no attempt. Held does not end when that time has passed. 0: this
+ * library asks for no wait; the backoff of RFC 5036 is the daemon's and stays.
+ *
+ * Refusals: 10.
+ */
 struct tacit_retry tacit_retry_interval(const uint8_t *record, size_t record_len);
 
 /*

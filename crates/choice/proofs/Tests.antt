@@ -1,6 +1,6 @@
--- Two tests that hold together hold each, and the other way round. By cases on the first. Assumes nothing.
+-- Two tests that hold together hold each, and the other way round; one that holds is enough for either. By cases on the first. Assumes nothing.
 use mathlib.Core.Path.{_≡_, refl, sym}
-use mathlib.Core.Bool.{Bool, true, false, not, _&&_, false≢true}
+use mathlib.Core.Bool.{Bool, true, false, not, _&&_, _||_, false≢true}
 use Rattle.choice.specs.Pick.{only, unless}
 
 pub and-first : (x y : Bool) → (x && y) ≡ true → x ≡ true
@@ -16,6 +16,14 @@ and-both true y h k = k
 and-both false y h k = h
 
 -- not is false where the test holds
+pub or-first : (x y : Bool) → x ≡ true → (x || y) ≡ true
+or-first true y h = refl
+or-first false y h = absurd (false≢true h)
+
+pub or-second : (x y : Bool) → y ≡ true → (x || y) ≡ true
+or-second true y h = refl
+or-second false y h = h
+
 pub not-false : (x : Bool) → not x ≡ true → x ≡ false
 not-false true h = absurd (false≢true h)
 not-false false h = refl

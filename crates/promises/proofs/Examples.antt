@@ -1,7 +1,8 @@
 -- The examples of sessions and of rows, and the counterexamples, hold: they are computed, with every definition unfolded. Assumes nothing.
 use mathlib.Core.Path.{refl}
 use Rattle.choice.specs.Pick.{pick}
-use Rattle.sets.specs.Set.{has, common, union, minus, with, without, empty, below, numbered, switched, chosen}
+use Rattle.sets.specs.Set.{has, common, union, minus, with, without, empty, below, within, numbered, switched, chosen}
+use Rattle.sets.proofs.Subsets.{within-means}
 use Rattle.kinds.specs.Kinds.{isIn, setOf, opens, controlled, gather, opened, disables}
 use Rattle.octets.specs.Octets.{over}
 use Rattle.area.specs.Area.{at16, takeTlv, passOther, byType, tlvAt, readFrom, readArea, part}
@@ -16,13 +17,14 @@ use Rattle.session.specs.Decisions.{answered, settled}
 use Rattle.session.specs.Events.{afterInitialization, onInitialization, listAfter, flagsAfter, afterCapability, onCapability, writing, onLocalChange, onHello, roomAfter}
 use Rattle.row.specs.Limiting.{capped}
 use Rattle.row.specs.Events.{eventOf}
+use Rattle.session.proofs.View.{in-more}
 use Rattle.row.specs.Row.{count, belowLimit, allSound, eventAt}
-use Rattle.promises.specs.Examples.{Examples, WhyItStops, WhyAtThatMoment}
+use Rattle.promises.specs.Examples.{Examples, WhyItStops, WhyAtThatMoment, FurtherKind}
 use Rattle.promises.specs.RowExamples.{RowExamples, WhyTheOneSession}
 
-computed : Examples × (WhyItStops × (WhyAtThatMoment × (RowExamples × WhyTheOneSession)))
+computed : Examples × (WhyItStops × (WhyAtThatMoment × (FurtherKind × (RowExamples × WhyTheOneSession))))
 unfolding
-    pick has common union minus with without empty below numbered switched chosen isIn setOf opens controlled gather opened disables over at16 takeTlv
+    pick has common union minus with without empty below within numbered switched chosen isIn setOf opens controlled gather opened disables over at16 takeTlv
     passOther byType tlvAt readFrom readArea part sBit idAt eAt stood after tacList sacElement sacAfter sacList roomWith nothingCommon spareZero forceSound
     listedSound openSound helloSound heldSound goneSound sound permitted mismatched heldToReady raised used atLimit answered settled afterInitialization
     onInitialization listAfter flagsAfter afterCapability onCapability writing onLocalChange onHello roomAfter capped eventOf count belowLimit allSound
@@ -55,8 +57,23 @@ computed = (
     (
       record { first = refl; second = refl; in-force = refl; listed = refl },
       (
-        record { two-open = refl; third = refl; third-ready = refl; fourth = refl; both = refl; passed = refl },
-        record { first-row = refl; second-row = refl },
+        record {
+          pair =
+              record {
+                first-sound = refl;
+                second-sound = refl;
+                first-ready = refl;
+                alike = refl;
+                more = λ n. in-more 0x40 0x48 n (within-means 0x40 0x48 refl);
+              };
+          stays-open = (refl, tt);
+          first = refl;
+          second = refl;
+        },
+        (
+          record { two-open = refl; third = refl; third-ready = refl; fourth = refl; both = refl; passed = refl },
+          record { first-row = refl; second-row = refl },
+        ),
       ),
     ),
   ),
@@ -71,8 +88,11 @@ why-it-stops = computed .1 .0
 pub why-at-that-moment : WhyAtThatMoment
 why-at-that-moment = computed .1 .1 .0
 
+pub further-kind : FurtherKind
+further-kind = computed .1 .1 .1 .0
+
 pub row-examples : RowExamples
-row-examples = computed .1 .1 .1 .0
+row-examples = computed .1 .1 .1 .1 .0
 
 pub why-the-one-session : WhyTheOneSession
-why-the-one-session = computed .1 .1 .1 .1
+why-the-one-session = computed .1 .1 .1 .1 .1

@@ -3,6 +3,10 @@ pub mod Runs
 pub mod Condition3
 pub mod Written
 pub mod Records
+pub mod Calls
 pub mod Rows
 pub mod Limits
 pub mod RowCondition3
+pub mod RowCalls
+pub mod RowRecords
+pub mod Creation

@@ -237,7 +237,7 @@ module _ (row : List Session) (e : RowEvent) (u : e .limits ≡ noLimits) (h : r
       let f = away-facts (one row e) is-one (own row e) there in
       let t = a .session in
       let told : a .belowLimit ≡ belowLimit (e .limits) row = admits-own (e .event) (belowLimit (e .limits) row) (e .area) (length (e .room)) (one row e) t (a .belowLimit) (f .1) in
-      let narrow = common-lt applicationCount (t .enabled) (t .listed) (f .0 .basic .enabled) in
+      let narrow = common-lt applicationCount (t .enabled) (t .listed) (f .0 .makes .basic .enabled) in
       let whole : common (negotiated t) (belowLimit (e .limits) row) ≡ negotiated t =
       ext applicationCount _ _ (common-lt applicationCount (negotiated t) (belowLimit (e .limits) row) narrow) narrow
       (λ k l. has-common (negotiated t) (belowLimit (e .limits) row) k ∙ ap (λ (b : Bool). has (negotiated t) k && b) (all-below k l) ∙ and-true (has (negotiated t) k)) in

@@ -12,16 +12,15 @@ use borrow.Author.Tests.{eqb-true, eq-eqb, ne-eqb}
 use Rattle.choice.proofs.Branch.{by-test, taken, left}
 use Rattle.session.specs.declared.Session.{Session}
 use Rattle.session.specs.declared.After.{After}
-use Rattle.session.specs.Session.{sound, Sound}
+use Rattle.session.specs.Session.{sound, Sound, Narrow}
 use Rattle.session.specs.With.{noSession}
 use Rattle.session.specs.Events.{Event, Numbered, step, run}
 use Rattle.session.proofs.SoundMeans.{sound-means, means-sound}
-use Rattle.session.proofs.View.{Narrow}
 use Rattle.session.proofs.Steps.{step-sound, step-narrow}
-use Rattle.record.specs.Record.{recordLength, storedIn, decoded}
+use Rattle.record.specs.Record.{recordLength, encoded, storedIn, decoded}
 use Rattle.record.specs.Carried.{recordAfter}
-use Rattle.record.proofs.RoundTrip.{never-sound, read-back}
-use Rattle.promises.specs.Records.{recordRun, AllNumbered, RecordsFollow}
+use Rattle.record.proofs.RoundTrip.{never-sound, read-back, stored-back}
+use Rattle.promises.specs.Records.{Octets, recordRun, AllNumbered, RecordsFollow}
 use Rattle.promises.proofs.Runs.{refused-is-nothing}
 
 -- ---- one event
@@ -37,7 +36,7 @@ long l h = go (eqb (length l) recordLength) refl
 four : (a b c d : ℕ) → a < 256 → b < 256 → c < 256 → d < 256 → a + 256 * b + 65536 * c + 16777216 * d < 2 ^ 32
 four a b c d ha hb hc hd = omega arith
 
-narrow : (l : List ℕ) → ((i : ℕ) → getD l i 0 < 256) → Narrow (decoded l)
+pub narrow : (l : List ℕ) → Octets l → Narrow (decoded l)
 unfolding decoded
 narrow l o =
     by-test Narrow
@@ -48,34 +47,44 @@ narrow l o =
     none = record { hello = lit< tt; next = lit< tt }
 
 -- what is known of a record and its session between two events
-record Holds (l : List ℕ) : Type 0 where
+pub record Holds (l : List ℕ) : Type 0 where
   pub is-long : length l ≡ recordLength
   pub is-sound : Sound (decoded l)
   pub is-narrow : Narrow (decoded l)
+  pub is-stored : encoded (decoded l) ≡ l
+
+pub holds : (l : List ℕ) → Octets l → sound (decoded l) ≡ true → Holds l
+holds l o h = record { is-long = long l h; is-sound = sound-means (decoded l) h; is-narrow = narrow l o; is-stored = stored-back l o h }
 
 module _ (l : List ℕ) (h : Holds l) (e : Event) (k : Numbered e) where
-  after : After
+  abbrev pub after : After
   after = step (decoded l) e
 
   sound-after : Sound (after .session)
-  unfolding after
   sound-after = step-sound (decoded l) (h .is-sound) e
 
   narrow-after : Narrow (after .session)
-  unfolding after
   narrow-after = step-narrow (decoded l) (h .is-sound) (h .is-narrow) e k
 
+  -- not refused, the record is that of the session after the event; refused, it is as it was
+  is-after : after .answer .refusal ≡ 0 → recordAfter after l ≡ encoded (after .session)
+  unfolding recordAfter storedIn
+  is-after p = taken _ _ (eq-eqb _ _ p) ∙ taken _ _ (eq-eqb _ _ (h .is-long))
+
+  as-before : (after .answer .refusal ≡ 0 → ⊥) → recordAfter after l ≡ l
+  unfolding recordAfter
+  as-before p = left _ _ (ne-eqb _ _ p)
+
   -- the record after the event holds the session after it
-  holds-after : decoded (recordAfter after l) ≡ after .session
-  unfolding recordAfter storedIn after
+  pub holds-after : decoded (recordAfter after l) ≡ after .session
   holds-after = go (ℕ-discrete (after .answer .refusal) 0)
     where
       go : Dec (after .answer .refusal ≡ 0) → decoded (recordAfter after l) ≡ after .session
       go (yes p) =
-          ap decoded (taken _ _ (eq-eqb _ _ p) ∙ taken _ _ (eq-eqb _ _ (h .is-long)))
+          ap decoded (is-after p)
           ∙ read-back (after .session) (means-sound (after .session) sound-after) (narrow-after .hello) (narrow-after .next)
       go (no p) =
-          ap decoded (left _ _ (ne-eqb _ _ p)) ∙ sym (ap (λ (a : After). a .session) (refused-is-nothing (decoded l) e p))
+          ap decoded (as-before p) ∙ sym (ap (λ (a : After). a .session) (refused-is-nothing (decoded l) e p))
 
   long-after : length (recordAfter after l) ≡ recordLength
   unfolding recordAfter storedIn
@@ -84,20 +93,31 @@ module _ (l : List ℕ) (h : Holds l) (e : Event) (k : Numbered e) where
       Long : List ℕ → Type 0
       Long m = length m ≡ recordLength
 
-  still : Holds (recordAfter after l)
+  stored-after : encoded (decoded (recordAfter after l)) ≡ recordAfter after l
+  stored-after = go (ℕ-discrete (after .answer .refusal) 0)
+    where
+      go : Dec (after .answer .refusal ≡ 0) → encoded (decoded (recordAfter after l)) ≡ recordAfter after l
+      go (yes p) = ap encoded holds-after ∙ sym (is-after p)
+      go (no p) = subst (λ (m : List ℕ). encoded (decoded m) ≡ m) (sym (as-before p)) (h .is-stored)
+
+  pub still : Holds (recordAfter after l)
   still =
       record {
         is-long = long-after;
         is-sound = subst Sound (sym holds-after) sound-after;
         is-narrow = subst Narrow (sym holds-after) narrow-after;
+        is-stored = stored-after;
       }
 
 -- ---- over the events
 follow : (l : List ℕ) (es : List Event) → Holds l → AllNumbered es → decoded (recordRun l es) ≡ run (decoded l) es
-unfolding after
 follow l [] h k = refl
 follow l (e ∷ es) h k =
     follow (recordAfter (step (decoded l) e) l) es (still l h e (k .0)) (k .1) ∙ ap (λ (s : Session). run s es) (holds-after l h e (k .0))
 
+pub run-holds : (l : List ℕ) (es : List Event) → Holds l → AllNumbered es → Holds (recordRun l es)
+run-holds l [] h k = h
+run-holds l (e ∷ es) h k = run-holds (recordAfter (step (decoded l) e) l) es (still l h e (k .0)) (k .1)
+
 pub records-follow : RecordsFollow
-records-follow l es o h k = follow l es (record { is-long = long l h; is-sound = sound-means (decoded l) h; is-narrow = narrow l o }) k
+records-follow l es o h k = follow l es (holds l o h) k

@@ -49,6 +49,9 @@ outside-step : (row : List Session) (e : RowEvent) → length row ≤ e .at → 
 unfolding eventAt
 outside-step row e past = left _ _ (past-row row (e .at) past)
 
+pub outside-then : (row : List Session) (e : RowEvent) → length row ≤ e .at → rowThen row e ≡ row
+outside-then row e past = sym (outside-row row (e .at) (e .event) (e .limits) (e .area) (past-row row (e .at) past) (length (e .room)))
+
 -- ---- sound rows
 pub sound-at : (row : List Session) (at : ℕ) → allSound row ≡ true → at < length row → sound (sessionAt row at) ≡ true
 unfolding allSound
@@ -132,7 +135,7 @@ step-counts row e n = go (decLt (e .at) (length row))
         let same : rowStep row e .session ≡ s = ap (λ (a : After). a .session) (outside-step row e past) in
         let lost : once (lostBy row e n) ≡ 0 = ap (λ (z : Session). once (uses s n && not (uses z n))) same ∙ never-both (uses s n) in
         let gained : once (gainedBy row e n) ≡ 0 = ap (λ (z : Session). once (uses z n && not (uses s n))) same ∙ never-both (uses s n) in
-        let stays : count (rowThen row e) n ≡ count row n = ap (λ (r : List Session). count r n) (sym (outside-row row (e .at) (e .event) (e .limits) (e .area) (past-row row (e .at) past) (length (e .room)))) in
+        let stays : count (rowThen row e) n ≡ count row n = ap (λ (r : List Session). count r n) (outside-then row e past) in
         rw (lost, gained, stays) refl
 
 one-step : (c c′ c″ g l g′ l′ : ℕ) → c′ + l ≡ c + g → c″ + l′ ≡ c′ + g′ → c″ + (l + l′) ≡ c + (g + g′)

@@ -1,18 +1,20 @@
 -- What we write is read as we meant it. A message was written only for a known application and with room for it, so its last 9 octets are the TAC of one
--- element; and reading that, the other end switches that application in its list and touches nothing else. Assumes nothing.
+-- element; and reading that, the other end switches that application in its list, or in an empty one where negotiation was not in force, and nothing else. Assumes nothing.
 use Prim.Native.Nat.{ℕ, _-_, _≤_}
 use mathlib.Core.Path.{_≡_, refl, sym, ap, ap₂, _∙_}
-use mathlib.Core.Bool.{Bool, true, false, _&&_}
+use mathlib.Core.Bool.{Bool, true, false, _&&_, and-false}
 use mathlib.Core.List.{List}
 use native.Mathlib.Omega.{arith}
 use lib.Dec.{ltb, lit<}
 use lib.ListN.{length, take, drop}
 use lib.Seq.{take-append-seam}
 use borrow.Author.Tests.{le-leb}
+use Rattle.choice.specs.Pick.{pick}
 use Rattle.choice.proofs.Branch.{by-test, taken, left}
 use Rattle.choice.proofs.Tests.{and-both}
-use Rattle.sets.specs.Set.{has, with, switched}
-use Rattle.sets.proofs.Members.{with-has}
+use Rattle.sets.specs.Set.{has, one, union, with, switched}
+use Rattle.sets.proofs.Flags as flag
+use Rattle.sets.proofs.Members.{has-none, with-has}
 use Rattle.sets.proofs.Switches.{numbered-is, switched-same, switched-other}
 use Rattle.kinds.specs.Kinds.{applicationCount, knownApplication, isIn}
 use Rattle.octets.specs.Octets.{over}
@@ -24,13 +26,14 @@ use Rattle.message.specs.Message.{messageHeadLength, oneElement, tacOctets, mes
 use Rattle.message.proofs.ReadBack.{oneTac, last-nine, read-back, s-back, list-back}
 use Rattle.session.specs.declared.Session.{Session}
 use Rattle.session.specs.declared.After.{After}
-use Rattle.session.specs.Session.{usesTac, inForceBit, flagCount, sound}
-use Rattle.session.specs.With.{withFlags, withListed, withListing}
+use Rattle.session.specs.Session.{usesTac, inForce, inForceBit, flagCount, sound}
+use Rattle.session.specs.With.{withFlags, withListed}
 use Rattle.session.specs.Decisions.{answered, Decision, Refused, Unchanged, Done, AsMismatch, Negotiate, Admit, Send, settled}
-use Rattle.session.specs.Events.{unlessRefused, takesTac, flagsAfter, listAfter, afterCapability, onCapability, onLocalChange, Event, Capability, LocalChange, step, run, roomAfter}
+use Rattle.session.specs.Events.{unlessRefused, takesTac, flagsAfter, listAfter, afterCapability, onCapability, Event, Capability, LocalChange, decision, step, run, roomAfter}
 use Rattle.session.proofs.SoundMeans.{sound-means}
 use Rattle.session.proofs.View.{Facts, facts-of}
-use Rattle.promises.specs.Written.{OtherEnd, ReadAsMeant}
+use Rattle.session.proofs.Steps.{unsound-refused}
+use Rattle.promises.specs.Written.{OtherEnd, ExactlyThat, StartsWithThat, ReadAsMeant}
 
 -- ---- where a message was written: the event was sent, which says that the application is known and that there was room
 record Wrote (n room : ℕ) : Type 0 where
@@ -53,15 +56,14 @@ module _ (s : Session) (n : ℕ) (on : Bool) (room : ℕ) where
   tells (Negotiate t) f = by-test Tells (λ _ e. absurd (omega arith)) (λ _ e. absurd (omega arith))
   tells (Admit t belowLimit) f = absurd (f .1)
   tells (Send t written) f =
-      by-test Tells (λ _ e. absurd (omega arith)) (λ _ _. record { known = f .0 .enabling .known; enough = f .1 .enough })
+      by-test Tells (λ _ e. absurd (omega arith)) (λ _ _. record { known = f .0 .makes .enabling .known; enough = f .1 .enough })
 
   wrote : step s change .answer .written ≡ changeLength → Wrote n room
-  unfolding onLocalChange settled
   wrote = go (sound s) refl
     where
       go : (x : Bool) → sound s ≡ x → step s change .answer .written ≡ changeLength → Wrote n room
-      go true h e = tells (onLocalChange s n on room) (facts-of s (sound-means s h) change) e
-      go false h e = absurd (omega (arith, sym (ap (λ (c : Decision). settled s c .answer .written) (left _ _ h)) ∙ e))
+      go true h e = tells (decision s change) (facts-of s (sound-means s h) change) e
+      go false h e = absurd (omega (arith, sym (ap (λ (a : After). a .answer .written) (unsound-refused s change h)) ∙ e))
 
 -- its last 9 octets are the TAC
 area-of : (s : Session) (n : ℕ) (on : Bool) (room : List ℕ) → step s (LocalChange n on (length room)) .answer .written ≡ changeLength
@@ -73,30 +75,49 @@ area-of s n on room w =
     ∙ ap (λ (l : List ℕ). drop messageHeadLength l) (take-append-seam (messageOf (s .next) n on) (drop changeLength room))
     ∙ last-nine (s .next) n on
 
+-- ---- a set of applications with one of them switched
+module _ (l n : ℕ) (on : Bool) (known : knownApplication n ≡ true) where
+  that : isIn (switched applicationCount l n on) n ≡ on
+  unfolding isIn
+  that =
+      let k = numbered-is applicationCount n known in
+      ap (λ (b : Bool). b && has (switched applicationCount l n on) (n - 1)) known ∙ switched-same applicationCount l n on (k .0) (k .1)
+
+  no-other : (m : ℕ) → (m ≡ n → ⊥) → isIn (switched applicationCount l n on) m ≡ isIn l m
+  unfolding isIn
+  no-other m ne = go (knownApplication m) refl
+    where
+      go : (x : Bool) → knownApplication m ≡ x → (knownApplication m && has (switched applicationCount l n on) (m - 1)) ≡ (knownApplication m && has l (m - 1))
+      go true e =
+          let k = numbered-is applicationCount m e in
+          ap (λ (b : Bool). knownApplication m && b) (switched-other applicationCount l n on (m - 1) (λ q. ne (omega arith)))
+      go false e = rw e refl
+
+none-in : (m : ℕ) → isIn 0 m ≡ false
+unfolding isIn
+none-in m = ap (λ (b : Bool). knownApplication m && b) (has-none (m - 1)) ∙ and-false (knownApplication m)
+
 -- ---- at the other end
 module _ (t : Session) (o : OtherEnd t) (n : ℕ) (on : Bool) (known : knownApplication n ≡ true) where
   takes : takesTac t oneTac ≡ true
   takes = and-both (usesTac t) _ (o .uses) refl
 
-  -- negotiation stays in force
-  flags-stay : flagsAfter t (oneElement n on) ≡ t .flags
-  unfolding flagsAfter with
-  flags-stay =
-      taken _ _ (s-back n on) ∙ with-has flagCount (t .flags) inForceBit (sound-means t (o .is-sound) .flags) (lit< tt) (o .in-force)
+  -- the list that it starts from
+  abbrev before : ℕ
+  before = pick (inForce t) (t .listed) 0
 
-  list-changes : listAfter t (oneElement n on) ≡ switched applicationCount (t .listed) n on
+  abbrev read : Session
+  read = withListed (withFlags t (union (t .flags) (one inForceBit))) (switched applicationCount before n on)
+
+  list-changes : listAfter t (oneElement n on) ≡ switched applicationCount before n on
   unfolding listAfter
-  list-changes =
-      let k = numbered-is applicationCount n known in
-      taken _ _ (s-back n on)
-      ∙ ap (λ (l : ℕ). tacList (oneElement n on) false l) (taken _ _ (o .in-force))
-      ∙ list-back n on (t .listed) (omega arith)
+  list-changes = let k = numbered-is applicationCount n known in taken _ _ (s-back n on) ∙ list-back n on before (omega arith)
 
-  after-is : afterCapability t (tacOctets n on) oneTac ≡ withListing t n on
-  unfolding afterCapability part sacList sacAfter
-  after-is = ap₂ (λ (f l : ℕ). withListed (withFlags t f) l) (taken _ _ takes ∙ flags-stay) (taken _ _ takes ∙ list-changes)
+  after-is : afterCapability t (tacOctets n on) oneTac ≡ read
+  unfolding afterCapability flagsAfter part sacList sacAfter
+  after-is = ap₂ (λ (f l : ℕ). withListed (withFlags t f) l) (taken _ _ takes ∙ taken _ _ (s-back n on)) (taken _ _ takes ∙ list-changes)
 
-  event-is : step t (Capability (tacOctets n on)) ≡ settled t (Negotiate (withListing t n on))
+  event-is : step t (Capability (tacOctets n on)) ≡ settled t (Negotiate read)
   unfolding onCapability
   event-is =
       ap (settled t)
@@ -105,25 +126,30 @@ module _ (t : Session) (o : OtherEnd t) (n : ℕ) (on : Bool) (known : knownAppl
       ∙ taken _ _ refl
       ∙ ap Negotiate after-is)
 
-  that : isIn (switched applicationCount (t .listed) n on) n ≡ on
-  unfolding isIn
-  that =
-      let k = numbered-is applicationCount n known in
-      ap (λ (b : Bool). b && has (switched applicationCount (t .listed) n on) (n - 1)) known ∙ switched-same applicationCount (t .listed) n on (k .0) (k .1)
+  -- negotiation stays in force
+  reads-in-force : inForce t ≡ true → ExactlyThat t n on (tacOctets n on)
+  unfolding with
+  reads-in-force f =
+      let flags = with-has flagCount (t .flags) inForceBit (sound-means t (o .is-sound) .flags) (lit< tt) f in
+      let list = ap (λ (l : ℕ). switched applicationCount l n on) (taken (t .listed) 0 f) in
+      record {
+        event = event-is ∙ ap₂ (λ (g l : ℕ). settled t (Negotiate (withListed (withFlags t g) l))) flags list;
+        that = that (t .listed) n on known;
+        no-other = no-other (t .listed) n on known;
+      }
 
-  no-other : (m : ℕ) → (m ≡ n → ⊥) → isIn (switched applicationCount (t .listed) n on) m ≡ isIn (t .listed) m
-  unfolding isIn
-  no-other m ne = go (knownApplication m) refl
-    where
-      go : (x : Bool) → knownApplication m ≡ x
-          → (knownApplication m && has (switched applicationCount (t .listed) n on) (m - 1)) ≡ (knownApplication m && has (t .listed) (m - 1))
-      go true e =
-          let k = numbered-is applicationCount m e in
-          ap (λ (b : Bool). knownApplication m && b) (switched-other applicationCount (t .listed) n on (m - 1) (λ q. ne (omega arith)))
-      go false e = rw e refl
+  -- or comes into force
+  reads-first : inForce t ≡ false → StartsWithThat t n on (tacOctets n on)
+  unfolding has
+  reads-first f =
+      record {
+        event = event-is ∙ ap (λ (l : ℕ). settled t (Negotiate (withListed (withFlags t (union (t .flags) (one inForceBit))) (switched applicationCount l n on)))) (left (t .listed) 0 f);
+        force = flag.on (t .flags) (one inForceBit) inForceBit refl;
+        that = that 0 n on known;
+        no-other = λ m ne. no-other 0 n on known m ne ∙ none-in m;
+      }
 
 pub read-as-meant : ReadAsMeant
 read-as-meant s es n on room t w o =
     let known = wrote (run s es) n on (length room) w .known in
-    rw (area-of (run s es) n on room w)
-    (record { event = event-is t o n on known; that = that t o n on known; no-other = no-other t o n on known })
+    rw (area-of (run s es) n on room w) (record { in-force = reads-in-force t o n on known; not-in-force = reads-first t o n on known })

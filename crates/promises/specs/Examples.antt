@@ -11,6 +11,8 @@ use Rattle.session.specs.Session.{isOpen, inForce, permitted}
 use Rattle.session.specs.With.{fresh}
 use Rattle.session.specs.Creation.{roleFlags}
 use Rattle.session.specs.Events.{Event, Initialization, Capability, LocalChange, step, run, roomAfter}
+use Rattle.promises.specs.Run.{StaysOpen}
+use Rattle.promises.specs.Condition3.{ReadyPair}
 
 -- a fresh initiating, active session that uses TAC; application n at bit n - 1
 abbrev pub begins : ℕ → ℕ → Session
@@ -118,3 +120,10 @@ pub record WhyAtThatMoment : Type 0 where
   pub second : permitted (run (begins 0x48 1) switched-off) ≡ 256
   pub in-force : inForce (run (begins 0x48 1) switched-off) ≡ true
   pub listed : isIn (run (begins 0x48 1) switched-off .listed) 4 ≡ true
+
+-- Condition 3 with a further kind: 7 enabled against 4 and 7, and a peer that lists both. The first permits kind 8, the second kind 0 besides
+pub record FurtherKind : Type 0 where
+  pub pair : ReadyPair (begins 0x40 1) (begins 0x48 1)
+  pub stays-open : StaysOpen (begins 0x40 1) (arrives tac4and7 ∷ [])
+  pub first : permitted (run (begins 0x40 1) (arrives tac4and7 ∷ [])) ≡ 256
+  pub second : permitted (run (begins 0x48 1) (arrives tac4and7 ∷ [])) ≡ 257

@@ -3,8 +3,12 @@ pub mod Words
 pub mod Condition3
 pub mod Written
 pub mod Records
+pub mod Calls
 pub mod Rows
 pub mod RowCondition3
+pub mod Walked
+pub mod RowCalls
+pub mod RowRecords
 pub mod Examples
 pub mod RowExamples
 pub mod Promises

@@ -9,6 +9,10 @@ use Rattle.session.specs.Events.{Event, Numbered, step, run}
 use Rattle.record.specs.Record.{decoded}
 use Rattle.record.specs.Carried.{recordAfter}
 
+-- octets, each below 256
+abbrev pub Octets : List ℕ → Type 0
+Octets l = (i : ℕ) → getD l i 0 < 256
+
 -- the record after events, one after another
 abbrev pub recordRun : List ℕ → List Event → List ℕ
 recordRun l [] = l
@@ -22,5 +26,5 @@ AllNumbered (e ∷ es) = Numbered e × AllNumbered es
 -- over any events the record holds the session that the same events lead to, so what is promised of sessions is promised of what the daemon stores
 abbrev pub RecordsFollow : Type 0
 RecordsFollow =
-    (l : List ℕ) (es : List Event) → ((i : ℕ) → getD l i 0 < 256) → sound (decoded l) ≡ true → AllNumbered es
+    (l : List ℕ) (es : List Event) → Octets l → sound (decoded l) ≡ true → AllNumbered es
     → decoded (recordRun l es) ≡ run (decoded l) es

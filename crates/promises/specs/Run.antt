@@ -5,12 +5,14 @@ use mathlib.Core.Bool.{true}
 use mathlib.Core.List.{List, [], _∷_, _++_}
 use Rattle.choice.specs.Pick.{pick}
 use Rattle.refusals.specs.Refusals.{notRefused, wrongState}
-use Rattle.kinds.specs.Kinds.{allApplications}
+use Rattle.sets.specs.Set.{switched}
+use Rattle.kinds.specs.Kinds.{applicationCount, allApplications}
 use Rattle.area.specs.Area.{readArea}
 use Rattle.session.specs.declared.Session.{Session}
 use Rattle.session.specs.Session.{isReady, isOpen, sound}
-use Rattle.session.specs.Decisions.{refused, Refused, Negotiate, settled}
-use Rattle.session.specs.Events.{checked, unlessRefused, afterInitialization, Event, Initialization, step, run, roomAfter}
+use Rattle.session.specs.With.{withEnabled}
+use Rattle.session.specs.Decisions.{outcomeMismatch, refused, Refused, Negotiate, settled}
+use Rattle.session.specs.Events.{checked, unlessRefused, afterInitialization, Event, Initialization, Capability, LocalChange, Mismatch, Hello, Closed, Unknown, step, run, roomAfter}
 
 -- the session is Open after each of the events
 abbrev pub StaysOpen : Session → List Event → Type 0
@@ -42,3 +44,21 @@ WithoutLimits =
     (s : Session) (a : List ℕ)
     → step s (Initialization a allApplications)
     ≡ settled s (checked s (pick (isReady s) (unlessRefused (readArea a) (Negotiate (afterInitialization s a (readArea a)))) (Refused wrongState)))
+
+-- "Finding it ourselves and being told have one effect": outcome 2 leaves of the session what a mismatch notification would have left, but that a local
+-- change has set its application, and answers as that would have
+abbrev pub enabledAfter : Session → Event → ℕ
+enabledAfter s (Initialization area belowLimit) = s .enabled
+enabledAfter s (Capability area) = s .enabled
+enabledAfter s (LocalChange n on room) = switched applicationCount (s .enabled) n on
+enabledAfter s Mismatch = s .enabled
+enabledAfter s (Hello number) = s .enabled
+enabledAfter s Closed = s .enabled
+enabledAfter s Unknown = s .enabled
+
+pub record OneEffect (s : Session) (e : Event) : Type 0 where
+  pub session : step s e .session ≡ withEnabled (step s Mismatch .session) (enabledAfter s e)
+  pub answer : step s e .answer ≡ step s Mismatch .answer
+
+abbrev pub FoundOrTold : Type 0
+FoundOrTold = (s : Session) (e : Event) → step s e .answer .outcome ≡ outcomeMismatch → OneEffect s e

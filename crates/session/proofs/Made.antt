@@ -9,12 +9,13 @@ use native.Mathlib.Omega.{arith}
 use lib.Dec.{eqb, lit<, lit≤}
 use borrow.Author.Tests.{eqb-true}
 use Rattle.choice.specs.Pick.{pick}
-use Rattle.choice.proofs.Branch.{by-test, taken, left}
+use Rattle.choice.proofs.Branch.{by-test, pick-both, taken, left}
 use Rattle.choice.proofs.Tests.{and-first}
 use Rattle.sets.specs.Set.{has, one, union, minus, empty, within}
 use Rattle.sets.proofs.Bounds.{minus-lt, union-lt}
 use Rattle.sets.proofs.Flags as flag
 use Rattle.sets.proofs.Members.{has-none}
+use Rattle.sets.proofs.Subsets.{within-means}
 use Rattle.sets.proofs.Switches.{switched-lt}
 use Rattle.kinds.specs.Kinds.{applicationCount, kindCount, appCount}
 use Rattle.area.specs.declared.Reading.{Reading}
@@ -24,7 +25,7 @@ use Rattle.lists.proofs.First.{tac-list-lt}
 use Rattle.lists.proofs.Later.{sac-list-lt}
 use Rattle.session.specs.declared.Session.{Session}
 use Rattle.session.specs.Session.{stateReady, stateOpen, stateHeld, stateGone, isReady, isOpen, isHeld, active, usesTac, inForce, recorded, initiatingBit, activeBit, usesTacBit, dropsBit, inForceBit, dynamicBit, recordedBit, flagCount, clearedOutOfOpen, clearedInGone, negotiated, nothingCommon, leavesGone, spareZero, forceSound, listedSound, openSound, helloSound, heldSound, goneSound, sound, Sound}
-use Rattle.session.specs.With.{withFlags, withNext, fresh, outOfOpen, backToReady, mismatched, heldToReady, greeted, changed}
+use Rattle.session.specs.With.{sessionOf, withFlags, withEnabled, withNext, fresh, outOfOpen, backToReady, mismatched, heldToReady, greeted, changed}
 use Rattle.session.specs.Creation.{raised, roleFlags}
 use Rattle.session.specs.Events.{takesTac, afterInitialization, listAfter, flagsAfter, afterCapability}
 use Rattle.session.proofs.SoundMeans.{sound-means, means-sound}
@@ -254,6 +255,36 @@ open-sound t is-open b listed disabled uses unlisted h =
       gone-unrecorded = λ e. never e gone;
     }
 
+-- ---- what a mismatch leaves does not depend on what it clears: the state, the lists, and the flags of negotiation
+module _ (s : Session) (state flags disabled enabled listed : ℕ)
+    (kept : (k : ℕ) → has (one inForceBit) k ≡ false → has (one dynamicBit) k ≡ false → has flags k ≡ has (s .flags) k)
+    (cleared : (b : ℕ) → within (one inForceBit) b ≡ true → within (one dynamicBit) b ≡ true → minus flags b ≡ minus (s .flags) b) where
+  abbrev found-in : Session
+  found-in = sessionOf state flags disabled enabled listed (s .protects) (s .hello) (s .next)
+
+  same-out : (to b hello : ℕ) → within (one inForceBit) b ≡ true → within (one dynamicBit) b ≡ true
+      → outOfOpen found-in to b hello ≡ withEnabled (outOfOpen s to b hello) enabled
+  same-out to b hello h k = ap (λ (f : ℕ). withFlags (withEnabled (outOfOpen s to b hello) enabled) f) (cleared b h k)
+
+  same-mismatched : mismatched found-in ≡ withEnabled (mismatched s) enabled
+  unfolding mismatched has within minus empty
+  same-mismatched =
+      ap₂ (λ (x y : Bool). pick x (pick y (outOfOpen found-in stateGone clearedInGone 0) (outOfOpen found-in stateHeld clearedOutOfOpen (s .hello))) (backToReady found-in))
+      (kept activeBit refl refl) (ap₂ _&&_ (kept initiatingBit refl refl) (kept dropsBit refl refl))
+      ∙ pick-both Left (active s)
+      (λ _. pick-both Left (leavesGone s) (λ _. same-out stateGone clearedInGone 0 refl refl) (λ _. same-out stateHeld clearedOutOfOpen (s .hello) refl refl))
+      (λ _. same-out stateReady clearedOutOfOpen (s .hello) refl refl)
+    where
+      Left : Session → Session → Type 0
+      Left x y = x ≡ withEnabled y enabled
+
+-- a session as it is, and with an application changed
+pub own-mismatched : (s : Session) → mismatched s ≡ withEnabled (mismatched s) (s .enabled)
+own-mismatched s = same-mismatched s (s .state) (s .flags) (s .disabled) (s .enabled) (s .listed) (λ _ _ _. refl) (λ _ _ _. refl)
+
+pub changed-mismatched : (s : Session) (n : ℕ) (on : Bool) → mismatched (changed s n on) ≡ withEnabled (mismatched s) (changed s n on .enabled)
+changed-mismatched s n on = same-mismatched s (heldToReady s) (s .flags) (s .disabled) _ (s .listed) (λ _ _ _. refl) (λ _ _ _. refl)
+
 -- ---- after an Initialization
 module _ (s : Session) (r : Sound s) (ready : isReady s ≡ true) (a : List ℕ) (found : Reading) where
   unforced : inForce s ≡ false
@@ -308,21 +339,9 @@ module _ (s : Session) (r : Sound s) (ready : isReady s ≡ true) (a : List ℕ)
       (raised-lt (s .flags) (one inForceBit) flagCount (takesTac s found) (r .flags) (lit< tt)) (lit< tt) b k
       ∙ raised-next (s .flags) (one inForceBit) flagCount (takesTac s found) (r .flags) (lit< tt) b h
 
-  out-same : (state b hello : ℕ) → within (one inForceBit) b ≡ true → within (one dynamicBit) b ≡ true
-      → outOfOpen (afterInitialization s a found) state b hello ≡ outOfOpen s state b hello
+  pub opened-mismatched : mismatched (afterInitialization s a found) ≡ withEnabled (mismatched s) (s .enabled)
   unfolding afterInitialization
-  out-same state b hello h k = ap (λ (f : ℕ). withFlags (outOfOpen s state b hello) f) (opened-cleared b h k)
-
-  pub opened-mismatched : mismatched (afterInitialization s a found) ≡ mismatched s
-  unfolding mismatched afterInitialization has within minus empty
-  opened-mismatched =
-      let u = afterInitialization s a found in
-      ap₂ (λ (x y : Bool). pick x (pick y (outOfOpen u stateGone clearedInGone 0) (outOfOpen u stateHeld clearedOutOfOpen (s .hello))) (outOfOpen u stateReady clearedOutOfOpen (s .hello)))
-      (opened-kept activeBit refl refl) (ap₂ _&&_ (opened-kept initiatingBit refl refl) (opened-kept dropsBit refl refl))
-      ∙ ap₂ (λ (x y : Session). pick (active s) (pick (leavesGone s) x y) (outOfOpen u stateReady clearedOutOfOpen (s .hello)))
-      (out-same stateGone clearedInGone 0 refl refl) (out-same stateHeld clearedOutOfOpen (s .hello) refl refl)
-      ∙ ap (λ (x : Session). pick (active s) (pick (leavesGone s) (outOfOpen s stateGone clearedInGone 0) (outOfOpen s stateHeld clearedOutOfOpen (s .hello))) x)
-      (out-same stateReady clearedOutOfOpen (s .hello) refl refl)
+  opened-mismatched = same-mismatched s stateOpen _ _ (s .enabled) _ opened-kept opened-cleared
 
 -- ---- after a Capability message
 module _ (s : Session) (r : Sound s) (is-open : isOpen s ≡ true) (a : List ℕ) (found : Reading) where
@@ -333,6 +352,24 @@ module _ (s : Session) (r : Sound s) (is-open : isOpen s ≡ true) (a : List ℕ
     where
       As : ℕ → Type 0
       As f = has f k ≡ has (s .flags) k
+
+  -- what it sets or clears is what a mismatch clears
+  told-cleared : (b : ℕ) → within (one inForceBit) b ≡ true → minus (afterCapability s a found .flags) b ≡ minus (s .flags) b
+  unfolding afterCapability flagsAfter
+  told-cleared b h =
+      let inside = within-means (one inForceBit) b h in
+      by-test As
+      (λ _. by-test As
+      (λ _. flag.lowered-next flagCount (s .flags) (one inForceBit) b (r .flags) (lit< tt) inside)
+      (λ _. flag.lowered-twice flagCount (s .flags) (one inForceBit) b (r .flags) inside))
+      (λ _. refl)
+    where
+      As : ℕ → Type 0
+      As f = minus f b ≡ minus (s .flags) b
+
+  pub told-mismatched : mismatched (afterCapability s a found) ≡ withEnabled (mismatched s) (s .enabled)
+  unfolding afterCapability
+  told-mismatched = same-mismatched s (s .state) _ _ (s .enabled) _ (λ k h _. told-kept k h) (λ b h _. told-cleared b h)
 
   pub told-uses : usesTac (afterCapability s a found) ≡ usesTac s
   unfolding has

@@ -1,5 +1,5 @@
 -- What holds after every event, read off what it was decided to come to: the session is sound if it was, its numbers stay below 2 ^ 32, what is refused
--- changes nothing, and outcome 3 is a session that was to be admitted. By cases on the decision, and the facts of its view. Assumes nothing.
+-- changes nothing, outcome 2 is what a mismatch notification leaves, and outcome 3 a session that was to be admitted. By cases on the decision, and the facts of its view. Assumes nothing.
 use Prim.Native.Nat.{ℕ, _+_, _^_, _<_}
 use mathlib.Core.Path.{_≡_, refl, sym, ap, ap₂, _∙_, subst}
 use mathlib.Core.Bool.{Bool, true, false, _&&_, _||_, and-true, false≢true}
@@ -18,14 +18,14 @@ use Rattle.kinds.specs.Kinds.{applicationCount, allApplications}
 use Rattle.area.specs.Area.{readArea}
 use Rattle.session.specs.declared.Session.{Session}
 use Rattle.session.specs.declared.After.{After}
-use Rattle.session.specs.Session.{isReady, isOpen, inForce, negotiated, nothingCommon, sound, Sound, permitted}
-use Rattle.session.specs.With.{mismatched}
+use Rattle.session.specs.Session.{isReady, isOpen, inForce, negotiated, nothingCommon, sound, Sound, Narrow, permitted}
+use Rattle.session.specs.With.{withEnabled, mismatched}
 use Rattle.session.specs.Limits.{atLimit}
-use Rattle.session.specs.Decisions.{outcomeAtLimit, refused, answered, Decision, Refused, Unchanged, Done, AsMismatch, Negotiate, Admit, Send, settled}
-use Rattle.session.specs.Events.{checked, unlessRefused, afterInitialization, onInitialization, onMismatch, Event, Initialization, Mismatch, Numbered, decision, step}
+use Rattle.session.specs.Decisions.{outcomeMismatch, outcomeAtLimit, refused, answered, Decision, Refused, Unchanged, Done, AsMismatch, Negotiate, Admit, Send, settled}
+use Rattle.session.specs.Events.{checked, unlessRefused, afterInitialization, onInitialization, onCapability, onLocalChange, onMismatch, onHello, onClosed, onUnknown, Event, Initialization, Capability, LocalChange, Mismatch, Hello, Closed, Unknown, Numbered, decision, step}
 use Rattle.session.proofs.SoundMeans.{sound-means, means-sound}
-use Rattle.session.proofs.Made.{ready-shut, mismatched-sound, mismatched-shut, next-sound, opened-mismatched}
-use Rattle.session.proofs.View.{Narrow, admits-opens, Facts, facts-of}
+use Rattle.session.proofs.Made.{ready-shut, mismatched-sound, mismatched-shut, next-sound, own-mismatched}
+use Rattle.session.proofs.View.{Makes, MakesFound, admits-opens, Facts, facts-of}
 
 -- ---- sound
 module _ (s : Session) (r : Sound s) where
@@ -37,11 +37,11 @@ module _ (s : Session) (r : Sound s) where
   settled-sound e (Refused n) f = r
   settled-sound e Unchanged f = r
   settled-sound e (Done t) f = f .makes .is-sound (f .common)
-  settled-sound e (AsMismatch t) f = mismatched-sound t (f .basic)
-  settled-sound e (Negotiate t) f = by-test Kept (λ _. mismatched-sound t (f .basic)) (f .is-sound)
+  settled-sound e (AsMismatch t) f = mismatched-sound t (f .makes .basic)
+  settled-sound e (Negotiate t) f = by-test Kept (λ _. mismatched-sound t (f .makes .basic)) (f .makes .is-sound)
   settled-sound e (Admit t belowLimit) f =
-      by-test Kept (λ _. mismatched-sound t (f .0 .basic)) (λ q. by-test Kept (λ _. mismatched-sound t (f .0 .basic)) (λ _. f .0 .is-sound q))
-  settled-sound e (Send t written) f = by-test Kept (λ _. mismatched-sound t (f .0 .basic)) (λ q. next-sound t _ (f .0 .is-sound q))
+      by-test Kept (λ _. mismatched-sound t (f .0 .makes .basic)) (λ q. by-test Kept (λ _. mismatched-sound t (f .0 .makes .basic)) (λ _. f .0 .makes .is-sound q))
+  settled-sound e (Send t written) f = by-test Kept (λ _. mismatched-sound t (f .0 .makes .basic)) (λ q. next-sound t _ (f .0 .makes .is-sound q))
 
   pub step-sound : (e : Event) → Sound (step s e .session)
   step-sound e = settled-sound e (decision s e) (facts-of s r e)
@@ -63,13 +63,13 @@ module _ (s : Session) (r : Sound s) (n : Narrow s) where
   settled-narrow e k (Refused i) f = n
   settled-narrow e k Unchanged f = n
   settled-narrow e k (Done t) f = f .makes .narrow n k
-  settled-narrow e k (AsMismatch t) f = mismatched-narrow t (f .narrow n k)
-  settled-narrow e k (Negotiate t) f = by-test Fits (λ _. mismatched-narrow t (f .narrow n k)) (λ _. f .narrow n k)
+  settled-narrow e k (AsMismatch t) f = mismatched-narrow t (f .makes .narrow n k)
+  settled-narrow e k (Negotiate t) f = by-test Fits (λ _. mismatched-narrow t (f .makes .narrow n k)) (λ _. f .makes .narrow n k)
   settled-narrow e k (Admit t belowLimit) f =
-      let small = f .0 .narrow n k in
+      let small = f .0 .makes .narrow n k in
       by-test Fits (λ _. mismatched-narrow t small) (λ _. by-test Fits (λ _. mismatched-narrow t small) (λ _. small))
   settled-narrow e k (Send t written) f =
-      let small = f .0 .narrow n k in
+      let small = f .0 .makes .narrow n k in
       by-test Fits (λ _. mismatched-narrow t small) (λ _. record { hello = small .hello; next = mod-lt (t .next + 1) (pow-pos 32) })
 
   pub step-narrow : (e : Event) → Numbered e → Narrow (step s e .session)
@@ -93,6 +93,21 @@ module _ (s : Session) where
 
   pub step-bare : (e : Event) → Bare (step s e)
   step-bare e = settled-bare (decision s e)
+
+-- ---- 10 before all others: a session that is not sound is refused whatever the event
+unsound-decided : (s : Session) (e : Event) → sound s ≡ false → decision s e ≡ Refused notSound
+unfolding onInitialization onCapability onLocalChange onMismatch onHello onClosed onUnknown
+unsound-decided s (Initialization area belowLimit) h = left _ _ h
+unsound-decided s (Capability area) h = left _ _ h
+unsound-decided s (LocalChange n on room) h = left _ _ h
+unsound-decided s Mismatch h = left _ _ h
+unsound-decided s (Hello number) h = left _ _ h
+unsound-decided s Closed h = left _ _ h
+unsound-decided s Unknown h = left _ _ h
+
+pub unsound-refused : (s : Session) (e : Event) → sound s ≡ false → step s e ≡ refused s notSound
+unfolding settled
+unsound-refused s e h = ap (settled s) (unsound-decided s e h)
 
 -- ---- outcome 3: to be admitted, with something common and nothing of it below its limit
 pub record TurnedAway (s : Session) (c : Decision) : Type 0 where
@@ -186,6 +201,55 @@ unfolding answered permitted minus
 nothing-lost s t outcome h k =
     ap₂ (λ (x y : ℕ). record { refusal = notRefused; outcome = outcome; lost = minus x y; gained = minus y x; written = 0 }) (left _ _ h) (left _ _ k)
 
+-- ---- "Finding it ourselves and being told have one effect"
+-- a notification, where it is for the state
+told : (s : Session) → Sound s → (isReady s || isOpen s) ≡ true → step s Mismatch ≡ answered s (mismatched s) outcomeMismatch 0
+unfolding onMismatch settled
+told s r h = ap (settled s) (taken _ _ (means-sound s r) ∙ taken _ _ h)
+
+-- what is not Open permits nothing, so all that was permitted is lost
+same-loss : (s t u : Session) → isOpen t ≡ false → isOpen u ≡ false → answered s t outcomeMismatch 0 .answer ≡ answered s u outcomeMismatch 0 .answer
+unfolding answered permitted
+same-loss s t u h k =
+    ap (λ (p : ℕ). record { refusal = notRefused; outcome = outcomeMismatch; lost = minus (permitted s) p; gained = minus p (permitted s); written = 0 })
+    (left _ _ h ∙ sym (left _ _ k))
+
+-- outcome 2: the session is the one that a notification leaves, with the enabled applications of the one in which the mismatch was found
+pub record AsTold (s : Session) (e : Event) (after : After) : Type 0 where
+  pub found-in : Session
+  pub makes : Makes s e found-in
+  pub session : after .session ≡ withEnabled (step s Mismatch .session) (found-in .enabled)
+  pub answer : after .answer ≡ step s Mismatch .answer
+
+module _ (s : Session) (r : Sound s) (e : Event) where
+  abbrev OneEffect : After → Type 0
+  OneEffect after = after .answer .outcome ≡ outcomeMismatch → AsTold s e after
+
+  finds : (t : Session) → MakesFound s e t → OneEffect (answered s (mismatched t) outcomeMismatch 0)
+  unfolding answered
+  finds t f _ =
+      let is = told s r (f .found .told) in
+      record {
+        found-in = t;
+        makes = f .makes;
+        session = f .found .leaves ∙ ap (λ (z : After). withEnabled (z .session) (t .enabled)) (sym is);
+        answer = same-loss s (mismatched t) (mismatched s) (mismatched-shut t) (mismatched-shut s) ∙ ap (λ (z : After). z .answer) (sym is);
+      }
+
+  settled-told : (c : Decision) → Facts s e c → OneEffect (settled s c)
+  unfolding settled answered
+  settled-told (Refused n) f = λ h. absurd (omega arith)
+  settled-told Unchanged f = λ h. absurd (omega arith)
+  settled-told (Done t) f = λ h. absurd (omega arith)
+  settled-told (AsMismatch t) f = finds t f
+  settled-told (Negotiate t) f = by-test OneEffect (λ _. finds t f) (λ _ h. absurd (omega arith))
+  settled-told (Admit t belowLimit) f =
+      by-test OneEffect (λ _. finds t (f .0)) (λ _. by-test OneEffect (λ _ h. absurd (omega arith)) (λ _ h. absurd (omega arith)))
+  settled-told (Send t written) f = by-test OneEffect (λ _. finds t (f .0)) (λ _ h. absurd (omega arith))
+
+  pub as-told : OneEffect (step s e)
+  as-told = settled-told (decision s e) (facts-of s r e)
+
 -- ---- "Otherwise outcome 3, the state as in a mismatch"
 module _ (s : Session) (r : Sound s) (e : Event) (h : step s e .answer .outcome ≡ outcomeAtLimit) where
   abbrev pub away : TurnedAway s (decision s e)
@@ -198,16 +262,12 @@ module _ (s : Session) (r : Sound s) (e : Event) (h : step s e .answer .outcome 
   away-shut = ready-shut (s .state) (r .state) (admits-opens s e (away .session) (away .belowLimit) (away-facts .1) .1 .ready)
 
   pub away-session : step s e .session ≡ step s Mismatch .session
-  unfolding onMismatch settled answered
+  unfolding answered afterInitialization
   away-session =
       let found = admits-opens s e (away .session) (away .belowLimit) (away-facts .1) in
-      let ready = found .1 .ready in
-      ap (λ (z : After). z .session) (away .is) ∙ ap mismatched (found .1 .is) ∙ opened-mismatched s r ready (found .0) (readArea (found .0))
-      ∙ sym (ap (λ (c : Decision). settled s c .session) (taken _ _ (means-sound s r) ∙ taken _ _ (or-first (isReady s) (isOpen s) ready)))
-    where
-      or-first : (x y : Bool) → x ≡ true → (x || y) ≡ true
-      or-first true y k = refl
-      or-first false y k = absurd (false≢true k)
+      let enabled : away .session .enabled ≡ s .enabled = ap (λ (t : Session). t .enabled) (found .1 .is) in
+      let f = away-facts .0 .found in
+      ap (λ (z : After). z .session) (away .is) ∙ f .leaves ∙ ap (withEnabled (mismatched s)) enabled ∙ sym (own-mismatched s) ∙ sym (ap (λ (z : After). z .session) (told s r (f .told)))
 
   pub away-answer : step s e .answer ≡ record { refusal = notRefused; outcome = outcomeAtLimit; lost = 0; gained = 0; written = 0 }
   away-answer =

@@ -9,7 +9,7 @@ use lib.Dec.{eqb, ltb, leb, lit≤}
 use borrow.Author.Tests.{eqb-true, leb-true}
 use Rattle.choice.specs.Pick.{pick}
 use Rattle.choice.proofs.Branch.{by-test, pick-both, taken}
-use Rattle.choice.proofs.Tests.{and-first, and-second, and-both}
+use Rattle.choice.proofs.Tests.{and-first, and-second, and-both, or-first, or-second}
 use Rattle.sets.specs.Set.{has, one, empty, Within, switched}
 use Rattle.sets.proofs.Flags as flag
 use Rattle.sets.proofs.Switches.{within-both, within-first, within-second}
@@ -19,20 +19,15 @@ use Rattle.area.specs.Area.{readArea}
 use Rattle.message.specs.Message.{changeLength}
 use Rattle.session.specs.declared.Session.{Session}
 use Rattle.session.specs.declared.After.{After}
-use Rattle.session.specs.Session.{stateReady, stateOpen, isReady, isOpen, isGone, usesTac, inForce, dynamic, recorded, usesTacBit, inForceBit, recordedBit, clearedOutOfOpen, negotiated, nothingCommon, Sound}
-use Rattle.session.specs.With.{withNext, withOtherEnabled, backToReady, heldToReady, greeted, changed}
+use Rattle.session.specs.Session.{stateReady, stateOpen, isReady, isOpen, isGone, usesTac, inForce, dynamic, recorded, usesTacBit, inForceBit, recordedBit, clearedOutOfOpen, negotiated, nothingCommon, Sound, Narrow}
+use Rattle.session.specs.With.{withEnabled, withNext, withOtherEnabled, backToReady, mismatched, heldToReady, greeted, changed}
 use Rattle.session.specs.Decisions.{answered, unchanged, Decision, Refused, Unchanged, Done, AsMismatch, Negotiate, Admit, Send, settled}
 use Rattle.session.specs.Events.{checked, afterInitialization, onInitialization, afterCapability, flagsAfter, listAfter, onCapability, same, already, writing, onLocalChange, onMismatch, onHello, onClosed, onUnknown, Event, Initialization, Capability, LocalChange, Mismatch, Hello, Closed, Unknown, Numbered, decision}
 use Rattle.session.proofs.SoundMeans.{means-sound}
-use Rattle.session.proofs.Made.{never, Basic, basic, back-sound, mismatched-shut, to-ready, gone-shut, greeted-sound, sound-common, changed-basic, changed-sound, opened-uses, opened-basic, opened-sound, told-uses, told-basic, told-sound}
+use Rattle.session.proofs.Made.{never, Basic, basic, back-sound, mismatched-shut, to-ready, gone-shut, greeted-sound, sound-common, changed-basic, changed-sound, opened-uses, opened-basic, opened-sound, own-mismatched, changed-mismatched, opened-mismatched, told-uses, told-basic, told-sound, told-mismatched}
 use Rattle.session.proofs.Alike.{Alike, alike, Follows, common-more, mismatch-follows, done-follows, negotiate-follows, admit-follows, send-follows}
 
 -- ---- what is known of a session that an event makes
--- the two numbers of 32 bits are such
-pub record Narrow (s : Session) : Type 0 where
-  pub hello : s .hello < 2 ^ 32
-  pub next : s .next < 2 ^ 32
-
 -- an application was changed, which was not so already
 pub record Changes (s : Session) (n : ℕ) (on : Bool) (t : Session) : Type 0 where
   pub known : knownApplication n ≡ true
@@ -67,6 +62,15 @@ pub record MakesStill (s : Session) (e : Event) (t : Session) : Type 0 where
   pub makes : Makes s e t
   pub common : nothingCommon t ≡ false
   pub still : Still s t
+
+-- a session in which a mismatch may be found: what it leaves is what a notification leaves of s, with the enabled applications of the one it is found in
+pub record Found (s t : Session) : Type 0 where
+  pub told : (isReady s || isOpen s) ≡ true
+  pub leaves : mismatched t ≡ withEnabled (mismatched s) (t .enabled)
+
+pub record MakesFound (s : Session) (e : Event) (t : Session) : Type 0 where
+  pub makes : Makes s e t
+  pub found : Found s t
 
 -- only an Initialization is admitted, and only in Ready
 pub record Opens (s : Session) (area : List ℕ) (t : Session) : Type 0 where
@@ -113,10 +117,10 @@ abbrev pub Facts : Session → Event → Decision → Type 0
 Facts s e (Refused n) = Unit {0}
 Facts s e Unchanged = Unit {0}
 Facts s e (Done t) = MakesStill s e t
-Facts s e (AsMismatch t) = Makes s e t
-Facts s e (Negotiate t) = Makes s e t
-Facts s e (Admit t belowLimit) = Makes s e t × Admits s e t belowLimit
-Facts s e (Send t written) = Makes s e t × Sends s e written
+Facts s e (AsMismatch t) = MakesFound s e t
+Facts s e (Negotiate t) = MakesFound s e t
+Facts s e (Admit t belowLimit) = MakesFound s e t × Admits s e t belowLimit
+Facts s e (Send t written) = MakesFound s e t × Sends s e written
 
 -- the facts of what the first comes to, and what follows from it for the second
 pub record View (s s′ : Session) (e : Event) (c c′ : Decision) : Type 0 where
@@ -163,11 +167,14 @@ module _ (s : Session) (e m : ℕ) (h : Within (s .enabled) e) (r : Sound s) (r�
       (λ z. record {
         facts = (
           record {
-            basic = opened-basic s r q a found;
-            is-sound = opened-sound s r q a found;
-            narrow = λ n _. record { hello = n .hello; next = n .next };
-            uses = opened-uses s r q a found;
-            enabling = refl;
+            makes = record {
+              basic = opened-basic s r q a found;
+              is-sound = opened-sound s r q a found;
+              narrow = λ n _. record { hello = n .hello; next = n .next };
+              uses = opened-uses s r q a found;
+              enabling = refl;
+            };
+            found = record { told = or-first (isReady s) (isOpen s) q; leaves = opened-mismatched s r q a found };
           },
           (record { ready = q; readable = eqb-true (found .refusal) notRefused z; is = refl }, refl),
         );
@@ -188,11 +195,14 @@ module _ (s : Session) (e m : ℕ) (h : Within (s .enabled) e) (r : Sound s) (r�
       (λ q. pick-both W (eqb (found .refusal) notRefused)
       (λ _. record {
         facts = record {
-          basic = told-basic s r q a found;
-          is-sound = told-sound s r q a found;
-          narrow = λ n _. record { hello = n .hello; next = n .next };
-          uses = told-uses s r q a found;
-          enabling = refl;
+          makes = record {
+            basic = told-basic s r q a found;
+            is-sound = told-sound s r q a found;
+            narrow = λ n _. record { hello = n .hello; next = n .next };
+            uses = told-uses s r q a found;
+            enabling = refl;
+          };
+          found = record { told = or-second (isReady s) (isOpen s) q; leaves = told-mismatched s r q a found };
         };
         follows = negotiate-follows s (withOtherEnabled s e m) (afterCapability s a found) e m h;
       })
@@ -205,8 +215,11 @@ module _ (s : Session) (e m : ℕ) (h : Within (s .enabled) e) (r : Sound s) (r�
   mismatch-view =
       both-checked s e m h Mismatch r r′ _ _
       (pick-both (View s (withOtherEnabled s e m) Mismatch) (isReady s || isOpen s)
-      (λ _. record {
-        facts = record { basic = basic r; is-sound = λ _. r; narrow = λ n _. n; uses = refl; enabling = refl };
+      (λ q. record {
+        facts = record {
+          makes = record { basic = basic r; is-sound = λ _. r; narrow = λ n _. n; uses = refl; enabling = refl };
+          found = record { told = q; leaves = own-mismatched s };
+        };
         follows = mismatch-follows s (withOtherEnabled s e m) s e m h (settled (withOtherEnabled s e m) (AsMismatch (withOtherEnabled s e m)));
       })
       (λ _. refuses s e m h Mismatch wrongState))
@@ -306,7 +319,10 @@ module _ (s : Session) (r : Sound s) (n : ℕ) (on : Bool) (room : ℕ) (known :
   unfolding heldToReady
   writing-facts =
       writing-along (λ c _. Facts s (LocalChange n on room) c) s (s .enabled) (s .next) (changed s n on) (changed s n on) room (λ _. tt)
-      (λ o q. (changes, record { is-open = and-first (isOpen s) _ o; long = refl; enough = q }))
+      (λ o q. let is-open = and-first (isOpen s) _ o in (
+        record { makes = changes; found = record { told = or-second (isReady s) (isOpen s) is-open; leaves = changed-mismatched s n on } },
+        record { is-open = is-open; long = refl; enough = q },
+      ))
       (λ o. record {
         makes = changes;
         common = unwritten-common s r n on o;
@@ -324,7 +340,7 @@ unfolding heldToReady
 was-open s = by-test (λ (k : ℕ). eqb k stateOpen ≡ true → isOpen s ≡ true) (λ _ z. absurd (false≢true z)) (λ _ z. z)
 
 -- in the set, with more in it
-in-more : (a b n : ℕ) → Within a b → isIn a n ≡ true → isIn b n ≡ true
+pub in-more : (a b n : ℕ) → Within a b → isIn a n ≡ true → isIn b n ≡ true
 unfolding isIn
 in-more a b n h e = and-both _ _ (and-first (knownApplication n) _ e) (h (n - 1) (and-second (knownApplication n) _ e))
 

@@ -157,6 +157,11 @@ pub record Sound (s : Session) : Type 0 where
   pub gone-leaves : isGone s ≡ true → leavesGone s ≡ true
   pub gone-unrecorded : isGone s ≡ true → recorded s ≡ false
 
+-- its two numbers are of 32 bits
+pub record Narrow (s : Session) : Type 0 where
+  pub hello : s .hello < 2 ^ 32
+  pub next : s .next < 2 ^ 32
+
 -- ---- what it permits
 -- "Permitted, when Open: a kind that SAC has not disabled and, where negotiation is in force, that some application both enabled and listed
 -- maps to. Not Open: none"

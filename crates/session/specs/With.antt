@@ -5,7 +5,7 @@ use Rattle.choice.specs.Pick.{pick}
 use Rattle.sets.specs.Set.{one, union, minus, switched}
 use Rattle.kinds.specs.Kinds.{applicationCount}
 use Rattle.session.specs.declared.Session.{Session}
-use Rattle.session.specs.Session.{stateReady, stateHeld, stateGone, noState, isHeld, active, leavesGone, recordedBit, clearedOutOfOpen, clearedInGone}
+use Rattle.session.specs.Session.{stateReady, stateHeld, stateGone, noState, isHeld, active, leavesGone, inForceBit, recordedBit, clearedOutOfOpen, clearedInGone}
 
 -- all fields in order
 abbrev pub sessionOf : ℕ → ℕ → ℕ → ℕ → ℕ → ℕ → ℕ → ℕ → Session
@@ -86,3 +86,7 @@ withOtherEnabled s enabled next = withNext (withEnabled s enabled) next
 -- the application n in the peer's list, or not
 abbrev pub withListing : Session → ℕ → Bool → Session
 withListing s n on = withListed s (switched applicationCount (s .listed) n on)
+
+-- negotiation in force, with a list that starts empty and the application n in it, or not
+abbrev pub withFirstListing : Session → ℕ → Bool → Session
+withFirstListing s n on = withListed (withFlags s (union (s .flags) (one inForceBit))) (switched applicationCount 0 n on)

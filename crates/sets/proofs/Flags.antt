@@ -29,3 +29,13 @@ lowered-next w a m b la lm h =
     go : (x y z : Bool) → (y ≡ true → z ≡ true) → (x || y) && not z ≡ x && not z
     go x false z f = ap (λ (v : Bool). v && not z) (or-false x)
     go x true z f = rw (f refl) (and-false (x || true) ∙ sym (and-false x))
+
+-- and as well not be lowered before
+pub lowered-twice : (w a m b : ℕ) → a < 2 ^ w → Within m b → minus (minus a m) b ≡ minus a b
+lowered-twice w a m b la h =
+    ext w (minus (minus a m) b) (minus a b) (minus-lt w (minus a m) b (minus-lt w a m la)) (minus-lt w a b la)
+    (λ k _. has-minus (minus a m) b k ∙ ap (λ (x : Bool). x && not (has b k)) (has-minus a m k) ∙ go (has a k) (has m k) (has b k) (h k) ∙ sym (has-minus a b k))
+  where
+    go : (x y z : Bool) → (y ≡ true → z ≡ true) → (x && not y) && not z ≡ x && not z
+    go x false z f = ap (λ (v : Bool). v && not z) (and-true x)
+    go x true z f = rw (f refl) (and-false (x && false) ∙ sym (and-false x))

@@ -1,0 +1,87 @@
+-- What C calls, over the contracts themselves as the check reads them: which event a call is, runs of calls on a record, and condition 3 of two records
+-- under the calls. Assumes nothing.
+use Prim.Native.Nat.{ℕ, _<_, _^_}
+use mathlib.Core.Path.{_≡_}
+use mathlib.Core.Bool.{true}
+use mathlib.Core.Logic.{_↔_}
+use mathlib.Core.List.{List, [], _∷_}
+use lib.ListN.{length}
+use Rattle.refusals.specs.Refusals.{notRefused}
+use Rattle.kinds.specs.Kinds.{kindCount, allApplications}
+use Rattle.session.specs.declared.Answer.{Answer}
+use Rattle.session.specs.declared.Session.{Session}
+use Rattle.session.specs.Session.{isOpen, sound}
+use Rattle.session.specs.With.{fresh}
+use Rattle.session.specs.Creation.{roleFlags}
+use Rattle.session.specs.Events.{Event, Initialization, Capability, LocalChange, Mismatch, Hello, Closed, step, run, roomAfter}
+use Rattle.record.specs.Record.{decoded}
+use Rattle.record.specs.Carried.{Carried}
+use Rattle.tacit.proofs.tacit_create.Reads as create
+use Rattle.tacit.proofs.tacit_initialization.Reads as initialization
+use Rattle.tacit.proofs.tacit_capability.Reads as capability
+use Rattle.tacit.proofs.tacit_local_change.Reads as local-change
+use Rattle.tacit.proofs.tacit_mismatch.Reads as mismatch
+use Rattle.tacit.proofs.tacit_hello.Reads as hello
+use Rattle.tacit.proofs.tacit_closed.Reads as closed
+use Rattle.tacit.proofs.tacit_permitted.Reads as permitted
+use Rattle.promises.specs.Words.{Permits}
+use Rattle.promises.specs.Records.{Octets, AllNumbered}
+use Rattle.promises.specs.Condition3.{ReadyPair, NeverLess}
+
+-- ---- the calls that are an event
+-- by its contract the C call for the event, handed the record l, may answer r and leave the record l′. In a call κs are the lifetimes of what is lent, a what
+-- is handed in, r what is handed back and s what is left in what was lent
+pub data Called : Event → List ℕ → Answer → List ℕ → Type 0 where
+  tacit-initialization : (κs : _) (a r s : _) → initialization.Post κs a r s → Called (Initialization (a .1 .0 .now) allApplications) (a .0 .now) r (s .0 .now)
+  tacit-capability : (κs : _) (a r s : _) → capability.Post κs a r s → Called (Capability (a .1 .0 .now)) (a .0 .now) r (s .0 .now)
+  tacit-local-change : (κs : _) (a r s : _) → local-change.Post κs a r s
+      → Called (LocalChange (a .1 .0) (a .1 .1 .0) (length (a .1 .1 .1 .0 .now))) (a .0 .now) r (s .0 .now)
+  tacit-mismatch : (κs : _) (a r s : _) → mismatch.Post κs a r s → Called Mismatch (a .0 .now) r (s .0 .now)
+  tacit-hello : (κs : _) (a r s : _) → hello.Post κs a r s → Called (Hello (a .1 .0)) (a .0 .now) r (s .0 .now)
+  tacit-closed : (κs : _) (a r s : _) → closed.Post κs a r s → Called Closed (a .0 .now) r (s .0 .now)
+
+-- each is its event: the answer is that of the session's step, and the record holds the session after it, or is as found
+abbrev pub CallsAreEvents : Type 0
+CallsAreEvents = (e : Event) (l : List ℕ) (r : Answer) (l′ : List ℕ) → Called e l r l′ → Carried (step (decoded l) e) l r l′
+
+-- and the room that a local change was lent is the event's
+abbrev pub RoomsAreEvents : Type 0
+RoomsAreEvents =
+    (κs : _) (a r s : _) → local-change.Post κs a r s
+    → s .1 .1 .1 .0 .now ≡ roomAfter (decoded (a .0 .now)) (LocalChange (a .1 .0) (a .1 .1 .0) (length (a .1 .1 .1 .0 .now))) (a .1 .1 .1 .0 .now)
+
+-- ---- one call after another, each on the record that the one before it left
+pub data CalledRun : List Event → List ℕ → List ℕ → Type 0 where
+  ended : (l : List ℕ) → CalledRun [] l l
+  called : (e : Event) (es : List Event) (l : List ℕ) (r : Answer) (m n : List ℕ) → Called e l r m → CalledRun es m n → CalledRun (e ∷ es) l n
+
+-- over any calls the record holds the session that the events lead to, and stays sound
+abbrev pub CallsFollow : Type 0
+CallsFollow =
+    (es : List Event) (l n : List ℕ) → Octets l → sound (decoded l) ≡ true → AllNumbered es → CalledRun es l n
+    → (decoded n ≡ run (decoded l) es) × (sound (decoded n) ≡ true)
+
+-- ---- creation: where it is not refused, the record holds the fresh session that was asked for, and is sound
+abbrev pub CreationIsSound : Type 0
+CreationIsSound =
+    (κs : _) (a r s : _) → create.Post κs a r s → r ≡ notRefused → a .1 .1 .1 .1 .1 .1 .1 .0 < 2 ^ 32
+    → (decoded (s .0 .now) ≡ fresh (roleFlags (a .1 .0) (a .1 .1 .0) (a .1 .1 .1 .0) (a .1 .1 .1 .1 .0)) (a .1 .1 .1 .1 .1 .0) (a .1 .1 .1 .1 .1 .1 .0) (a .1 .1 .1 .1 .1 .1 .1 .0))
+    × (sound (decoded (s .0 .now)) ≡ true)
+
+-- ---- the question: of a sound record and a kind that is one, it answers 1 exactly where the session permits the kind
+abbrev pub PermittedIsAsked : Type 0
+PermittedIsAsked =
+    (κs : _) (a r s : _) → permitted.Post κs a r s → sound (decoded (a .0 .now)) ≡ true → a .1 .0 < kindCount
+    → (r .refusal ≡ notRefused) × ((r .permitted ≡ 1) ↔ Permits (decoded (a .0 .now)) (a .1 .0))
+
+-- ---- condition 3: two records, one Initialization handed to both and then the same events, each by its call
+-- the record is that of an Open session after each call
+abbrev pub StaysOpenUnder : (es : List Event) (l n : List ℕ) → CalledRun es l n → Type 0
+StaysOpenUnder es l n (ended m) = Unit {0}
+StaysOpenUnder es l n (called e fs k r m o c cs) = (isOpen (decoded m) ≡ true) × StaysOpenUnder fs m o cs
+
+abbrev pub CallsCondition3 : Type 0
+CallsCondition3 =
+    (l m : List ℕ) (area : List ℕ) (es : List Event) (l′ m′ : List ℕ) → Octets l → Octets m → AllNumbered es → ReadyPair (decoded l) (decoded m)
+    → (first : CalledRun (Initialization area allApplications ∷ es) l l′) → CalledRun (Initialization area allApplications ∷ es) m m′
+    → StaysOpenUnder (Initialization area allApplications ∷ es) l l′ first → NeverLess (decoded l′) (decoded m′)
