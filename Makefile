@@ -2,7 +2,7 @@
 
 PREFIX        ?= /usr/local
 DESTDIR       ?=
-VERSION       := 1.1.0
+VERSION       := 1.2.0
 CALLS         ?= 200000
 SEED          ?= 0x7AC17
 
@@ -13,7 +13,7 @@ library := $(TACIT_LIB_DIR)/libtacit.a
 here    := TACIT_LIB_DIR="$(abspath $(TACIT_LIB_DIR))"
 proved  := crates.txt $(shell find crates -name '*.rt' -o -name '*.antt' 2>/dev/null)
 
-.PHONY: all help install demo test c-test compare mutants second clean always
+.PHONY: all help install demo test c-test compare mutants mutants-few second clean distclean always
 .DELETE_ON_ERROR:
 
 all: $(library) build/tacit.h build/tacit.pc
@@ -22,24 +22,40 @@ all: $(library) build/tacit.h build/tacit.pc
 help:
 	@echo "make            prove the library and build it: build/libtacit.a, tacit.h, tacit.pc"
 	@echo "make install    put these below PREFIX ($(PREFIX)), below DESTDIR if it is set"
-	@echo "make demo       run examples/friday.c, the incident replayed in words, and ring.c, a night with limits"
-	@echo "make test       the gate: c-test, second and compare, then every crate proved from nothing"
+	@echo "make demo       run examples/: friday.c, the incident replayed in words, ring.c, a night with limits, daemon.c, a daemon in small"
+	@echo "make test       the gate: c-test, second, compare and some mutants, then every crate proved from nothing"
 	@echo "make c-test     check the library through C: tests, sanitizers, header, demos"
 	@echo "make compare    the library against the second implementation; CALLS=$(CALLS) SEED=$(SEED)"
-	@echo "make mutants    break the second implementation rule by rule; each must be noticed"
-	@echo "make coverage   how much of the library's code such a comparison runs, by function"
+	@echo "make mutants    break the second implementation rule by rule; each must be noticed; MUTANTS=names for some"
+	@echo "make coverage   how much of the library's code such a comparison runs, by function (*)"
 	@echo "make second     the second implementation's own tests"
-	@echo "make fuzz       the two on inputs that a fuzzer makes; SECONDS=60"
-	@echo "make outside    what the library writes read by Wireshark, what FRR sends read by the library"
-	@echo "make bench      instructions of each call, into docs/BENCHMARK.md"
-	@echo "make clean      remove build/"
+	@echo "make fuzz       the two on inputs that a fuzzer makes; SECONDS=$(SECONDS) (*)"
+	@echo "make outside    what the library writes read by Wireshark, what FRR sends read by the library (*)"
+	@echo "make bench      instructions of each call, into docs/BENCHMARK.md (*)"
+	@echo "make clean      remove build/; target/, with what is proved already, stays"
+	@echo "make distclean  remove target/ too"
 	@echo "TACIT_LIB_DIR   where libtacit.a is, to check another one (build)"
+	@echo "(*)             installs Debian packages by apt-get where they are missing; no other target installs any"
 
-# Only a proved library is built. What rt says is shown if it refuses.
+# Of what rt says, a line for each crate that is proved.
+define shown
+/^fn .*: proved/              { functions++ }
+/^rt: [a-z]+ proved/          { crate = $$2; sub(/^[^(]*/, " "); show(crate, $$0) }
+/^rt: target\/staticlib\/lib/ { show("tacit", "") }
+function show(crate, how) {
+    printf "   %-9s proved%s%s\n", crate, functions ? ": " functions " functions" : "", how
+    functions = 0
+    fflush()
+}
+endef
+export shown
+
+# Only a proved library is built. All that rt says is shown if it refuses.
 build/libtacit.a: $(proved)
-	@command -v rt >/dev/null || { echo "rt, the Rattle toolchain, is not on the PATH: libtacit.a cannot be built without it" >&2; exit 1; }
+	@command -v rt >/dev/null || { echo "rt, the Rattle toolchain, is not on the PATH: libtacit.a cannot be built without it (see README.md)" >&2; exit 1; }
 	@mkdir -p build
-	rt staticlib tacit >build/staticlib.log 2>&1 || { cat build/staticlib.log >&2; exit 1; }
+	@echo "proving the library crate by crate; from nothing this takes some three minutes"
+	@bash -o pipefail -c 'rt staticlib tacit 2>&1 | tee build/staticlib.log | awk "$$shown"' || { cat build/staticlib.log >&2; exit 1; }
 	@cp target/staticlib/libtacit.a $@
 
 build/tacit.h: include/tacit.h
@@ -72,11 +88,10 @@ install: $(library)
 
 demo: $(library)
 	@mkdir -p build
-	@$(here) tests/c/host cc -std=c11 -O2 -Wall -Wextra -Iinclude -o build/friday examples/friday.c "$(library)"
-	@$(here) tests/c/host cc -std=c11 -O2 -Wall -Wextra -Iinclude -o build/ring examples/ring.c "$(library)"
-	@$(here) tests/c/host run build/friday
-	@echo
-	@$(here) tests/c/host run build/ring
+	@for each in friday ring daemon; do \
+	    $(here) tests/c/host cc -std=c11 -O2 -Wall -Wextra -Iinclude -o build/$$each examples/$$each.c "$(library)" && \
+	    echo && $(here) tests/c/host run build/$$each || exit 1; \
+	done
 
 test:
 	bash .ci/run
@@ -89,12 +104,22 @@ compare: $(library)
 	@cd tests/compare && cargo run --release --offline -- --calls $(CALLS) --seed $(SEED)
 
 mutants: $(library)
-	@$(here) tests/mutants/run --calls $(CALLS) --seed $(SEED)
+	@$(here) tests/mutants/run --calls $(CALLS) --seed $(SEED) $(MUTANTS)
+
+# For the gate: one rule of each part, and one fault of the library.
+few := area-3-before-5 tac-by-position permitted-despite-sac change-9-not-asked at-limit-never \
+       record-lists-swapped row-another-touched library-writes-behind
+mutants-few: $(library)
+	@$(here) tests/mutants/run --calls 100000 --seed $(SEED) $(few)
 
 second:
 	cd tests/second && cargo test --offline
 
 clean:
 	rm -rf build
+	@echo "target/, with what is proved already, stays; 'make distclean' removes it too"
+
+distclean:
+	rm -rf build target
 
 -include tests/tests.mk

@@ -66,6 +66,10 @@ extern "C" {
 /* Numbers                                                                   */
 /* ------------------------------------------------------------------------ */
 
+/* The version of this header and its library, to be compared, and for a log. */
+#define TACIT_VERSION      10200 /* 1.2.0: two digits for each number behind the first */
+#define TACIT_VERSION_TEXT "1.2.0"
+
 #define TACIT_RECORD_LENGTH  22   /* octets of a record */
 #define TACIT_MESSAGE_LENGTH 17   /* octets of a message that we write */
 #define TACIT_MESSAGE_AREA    8   /* where in it the parameter area starts, to its end */
@@ -764,6 +768,99 @@ static inline const char *tacit_application_text(uint32_t ta_id)
     case TACIT_APP_IPV6_INTRA_AREA: return "IPv6 intra-area FECs";
     default: return "unknown";
     }
+}
+
+/* For tacit_answer_text: a line of so many whole characters, of which len - 1 are written. */
+struct tacit_line {
+    char *text;
+    size_t len;
+    size_t whole;
+};
+
+static inline struct tacit_line tacit_line_with(struct tacit_line line, const char *words)
+{
+    for (; *words != 0; words++) {
+        if (line.whole + 1 < line.len)
+            line.text[line.whole] = *words;
+        line.whole++;
+    }
+    return line;
+}
+
+static inline struct tacit_line tacit_line_with_number(struct tacit_line line, uint16_t number)
+{
+    char digits[6] = {0}; /* five at most, and a 0 */
+    size_t first = 5;
+    do {
+        digits[--first] = (char)('0' + number % 10);
+        number = (uint16_t)(number / 10);
+    } while (number != 0);
+    return tacit_line_with(line, digits + first);
+}
+
+/* The text of a number, with the number itself where it means nothing. */
+static inline struct tacit_line tacit_line_with_meaning(struct tacit_line line, const char *words,
+                                                        uint16_t number, uint16_t last)
+{
+    line = tacit_line_with(line, words);
+    if (number <= last)
+        return line;
+    line = tacit_line_with(line, " (");
+    return tacit_line_with(tacit_line_with_number(line, number), ")");
+}
+
+static inline struct tacit_line tacit_line_with_kinds(struct tacit_line line, const char *title,
+                                                      uint16_t kinds)
+{
+    const char *before = title;
+    for (uint16_t kind = 0; kind < 16; kind++) {
+        if ((kinds & TACIT_KIND_SET(kind)) == 0)
+            continue;
+        line = tacit_line_with(line, before);
+        line = tacit_line_with_meaning(line, tacit_kind_text(kind), kind,
+                                       TACIT_KIND_P2MP_PW_UPSTREAM);
+        before = ", ";
+    }
+    return line;
+}
+
+static inline struct tacit_line tacit_line_with_answer(struct tacit_line line,
+                                                       struct tacit_answer answer)
+{
+    if (answer.refusal != TACIT_NOT_REFUSED) {
+        line = tacit_line_with_number(tacit_line_with(line, "refused, number "), answer.refusal);
+        return tacit_line_with(tacit_line_with(line, ": "), tacit_refusal_text(answer.refusal));
+    }
+    line = tacit_line_with_meaning(line, tacit_outcome_text(answer.outcome), answer.outcome,
+                                   TACIT_AT_LIMIT);
+    line = tacit_line_with_kinds(line, "; lost ", answer.lost);
+    line = tacit_line_with_kinds(line, "; gained ", answer.gained);
+    if (answer.written == 0)
+        return line;
+    line = tacit_line_with_number(tacit_line_with(line, "; "), answer.written);
+    return tacit_line_with(line, " octets written");
+}
+
+/*
+ * One line for any answer, like "done; lost PWid, Generalized PWid; 17 octets
+ * written" or "refused, number 7: event not for this state". What is 0 is left
+ * out; of a refused answer only the refusal is told, for all else in it is 0. A
+ * number that means nothing stands as "unknown (12)".
+ *
+ * Writes at most len octets, the last of them 0, so that a line too long is cut.
+ * With len 0 nothing is written, and text may be NULL. Returns how many characters
+ * the whole line has: it is there in full if this is less than len, as it always
+ * is with a len of TACIT_ANSWER_TEXT_MOST.
+ */
+#define TACIT_ANSWER_TEXT_MOST 512
+
+static inline size_t tacit_answer_text(char *text, size_t len, struct tacit_answer answer)
+{
+    struct tacit_line line = {text, len, 0};
+    line = tacit_line_with_answer(line, answer);
+    if (len != 0)
+        text[line.whole < len ? line.whole : len - 1] = 0;
+    return line.whole;
 }
 
 /* The state of a record, or TACIT_NO_STATE, 255, if it is not sound. */

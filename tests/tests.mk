@@ -21,3 +21,13 @@ outside: $(TACIT_LIB_DIR)/libtacit.a
 # Instructions for each call beside the second program; writes docs/BENCHMARK.md.
 bench: $(TACIT_LIB_DIR)/libtacit.a
 	@TACIT_LIB_DIR="$(abspath $(TACIT_LIB_DIR))" bench/run
+
+# Wrong numbers are refused before anything is made: to the fuzzer SECONDS=x is no limit at all.
+digits  := 0 1 2 3 4 5 6 7 8 9
+without  = $(if $1,$(call without,$(wordlist 2,$(words $1),$1),$(subst $(firstword $1),,$2)),$2)
+number   = $(if $2,$(if $(call without,$1,$2),,yes))
+counted  = $(and $(call number,$(digits),$($1)),$(call without,0,$($1)))
+$(foreach each,CALLS SECONDS,$(if $(call counted,$(each)),,\
+    $(error $(each) is a number from 1, not '$($(each))')))
+$(if $(call number,$(digits),$(SEED))$(call number,$(digits) a b c d e f A B C D E F,$(patsubst 0x%,%,$(filter 0x%,$(SEED)))),,\
+    $(error SEED is a number, or 0x and hexadecimal digits, not '$(SEED)'))

@@ -500,6 +500,7 @@ int main(void)
     lengths();
     numbers();
     damage();
+    words();
 
     printf("%u passed, %u failed\n", tests_passed, tests_failed);
     return tests_failed == 0 && tests_passed > 0 ? 0 : 1;

@@ -10,6 +10,10 @@ static bool one_session(uint8_t *record, size_t record_len)
     const tacit_answer answer = tacit_initialization(record, record_len, area, sizeof area);
     if (answer.outcome != TACIT_DONE || tacit_state(record, record_len) != TACIT_OPEN)
         return false;
+    char line[TACIT_ANSWER_TEXT_MOST];
+    if (tacit_answer_text(line, sizeof line, answer) >= sizeof line ||
+        std::strcmp(line, "done; gained Generalized PWid") != 0)
+        return false;
     const tacit_kinds kinds = tacit_permitted_kinds(record, record_len);
     return kinds.kinds == TACIT_KIND_SET(TACIT_KIND_GENERALIZED_PWID) &&
            std::strcmp(tacit_outcome_text(answer.outcome), "done") == 0;

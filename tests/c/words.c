@@ -1,6 +1,7 @@
 /* The texts of the header. */
 #include "harness.h"
 
+#include <stdio.h>
 #include <string.h>
 
 /* Texts for 'first' to 'last', all different, and "unknown" for anything else. */
@@ -57,9 +58,127 @@ static void states(void)
     CHECK(strcmp(tacit_state_text(load(&record).session.state), "unknown") == 0);
 }
 
+static void version(void)
+{
+    char text[32];
+    snprintf(text, sizeof text, "%d.%d.%d", TACIT_VERSION / 10000, TACIT_VERSION / 100 % 100,
+             TACIT_VERSION % 100);
+    CHECK(strcmp(text, TACIT_VERSION_TEXT) == 0);
+}
+
+/* ---- One line for an answer ---- */
+
+#define LINE_MOST 600 /* more than any line has */
+
+/* The line in len octets of room, which must be cut where it must and touch nothing else. */
+static size_t line_in(char *line, size_t len, struct tacit_answer answer)
+{
+    uint8_t found[LINE_MOST];
+    memset(found, 0xA5, sizeof found);
+    char *text = (char *)lend(ROOM, found, len);
+    size_t whole = tacit_answer_text(text, len, answer);
+    size_t kept = whole < len ? whole + 1 : len;
+    CHECK(margin_kept(ROOM, len));
+    CHECK(len == 0 || (text[kept - 1] == 0 && strlen(text) == kept - 1));
+    CHECK(len == 0 || memcmp(text + kept, found, len - kept) == 0);
+    if (len != 0)
+        memcpy(line, text, kept);
+    return whole;
+}
+
+static void expect_line(struct tacit_answer answer, const char *wanted)
+{
+    trying("the line '%s'", wanted);
+    char line[LINE_MOST];
+    CHECK(line_in(line, sizeof line, answer) == strlen(wanted));
+    CHECK(strcmp(line, wanted) == 0);
+}
+
+static void answer_lines(void)
+{
+    expect_line((struct tacit_answer){0, 0, 0x180, 0, 17},
+                "done; lost PWid, Generalized PWid; 17 octets written");
+    expect_line((struct tacit_answer){0, 0, 0, 0, 0}, "done");
+    expect_line((struct tacit_answer){0, 1, 0, 0, 0}, "unchanged");
+    expect_line((struct tacit_answer){0, 2, 1, 0, 0}, "mismatch; lost IPv4 prefix");
+    expect_line((struct tacit_answer){0, 3, 0, 0, 0}, "at the limit");
+    expect_line((struct tacit_answer){0, 0, 0x1, 0x202, 0},
+                "done; lost IPv4 prefix; gained IPv6 prefix, P2MP PW Upstream");
+    expect_line((struct tacit_answer){7, 0, 0, 0, 0},
+                "refused, number 7: event not for this state");
+    expect_line((struct tacit_answer){12, 0, 0, 0, 0}, "refused, number 12: limit over 64");
+    expect_line((struct tacit_answer){200, 9, 1, 1, 1}, "refused, number 200: unknown");
+    expect_line((struct tacit_answer){0, 255, 0x8400, 0, 65535},
+                "unknown (255); lost unknown (10), unknown (15); 65535 octets written");
+    expect_line((struct tacit_answer){0, 0, 0, 0, 10}, "done; 10 octets written");
+}
+
+/* Every refusal and every outcome there can be, by the texts of their numbers. */
+static void answer_numbers(void)
+{
+    for (unsigned number = 0; number < 256; number++) {
+        char wanted[LINE_MOST];
+        uint8_t octet = (uint8_t)number;
+        snprintf(wanted, sizeof wanted, "refused, number %u: %s", number,
+                 tacit_refusal_text(number));
+        expect_line((struct tacit_answer){octet, 0, 0, 0, 0}, number == 0 ? "done" : wanted);
+        snprintf(wanted, sizeof wanted, number <= 3 ? "%s" : "%s (%u)", tacit_outcome_text(number),
+                 number);
+        expect_line((struct tacit_answer){0, octet, 0, 0, 0}, wanted);
+    }
+}
+
+/* One kind at a time, lost and gained, and every number of octets written. */
+static void answer_sets(void)
+{
+    for (unsigned kind = 0; kind < 16; kind++) {
+        char name[32], wanted[LINE_MOST];
+        uint16_t set = (uint16_t)(1u << kind);
+        snprintf(name, sizeof name, kind <= 9 ? "%s" : "%s (%u)", tacit_kind_text(kind), kind);
+        snprintf(wanted, sizeof wanted, "done; lost %s", name);
+        expect_line((struct tacit_answer){0, 0, set, 0, 0}, wanted);
+        snprintf(wanted, sizeof wanted, "done; gained %s", name);
+        expect_line((struct tacit_answer){0, 0, 0, set, 0}, wanted);
+    }
+    for (uint32_t written = 1; written <= 65535; written++) {
+        char line[64], wanted[64];
+        trying("%lu octets written", (unsigned long)written);
+        snprintf(wanted, sizeof wanted, "done; %lu octets written", (unsigned long)written);
+        tacit_answer_text(line, sizeof line, (struct tacit_answer){0, 0, 0, 0, (uint16_t)written});
+        CHECK(strcmp(line, wanted) == 0);
+    }
+}
+
+/*
+ * Cut at every length: the start of the whole line, and the whole's length all
+ * the same. The last is the longest that there is.
+ */
+static void answer_cut(void)
+{
+    static const struct tacit_answer answers[] = {
+        {0, 0, 0x180, 0, 17}, {10, 0, 0, 0, 0}, {0, 1, 0, 0, 0}, {0, 255, 0xFFFF, 0xFFFF, 65535}};
+    for (size_t i = 0; i < sizeof answers / sizeof *answers; i++) {
+        char all[LINE_MOST], cut[LINE_MOST];
+        size_t whole = line_in(all, sizeof all, answers[i]);
+        for (size_t len = 0; len <= whole + 3; len++) {
+            trying("answer %zu in %zu octets", i, len);
+            memset(cut, 0, sizeof cut);
+            CHECK(line_in(cut, len, answers[i]) == whole);
+            size_t kept = len == 0 ? 0 : len <= whole ? len - 1 : whole;
+            CHECK(strlen(cut) == kept && memcmp(cut, all, kept) == 0);
+        }
+        CHECK(tacit_answer_text(NULL, 0, answers[i]) == whole && whole < TACIT_ANSWER_TEXT_MOST);
+    }
+}
+
 void words(void)
 {
     test("texts for a log", texts);
     test("numbers by their names", names);
     test("the state of a record, for a log", states);
+    test("the version as a number and as a text", version);
+    test("one line for an answer", answer_lines);
+    test("one line for every refusal and outcome", answer_numbers);
+    test("one line for every kind and every number of octets", answer_sets);
+    test("one line cut at every length", answer_cut);
 }
