@@ -38,7 +38,7 @@ impl Session {
     fn writing(self, after: Session, room: usize) -> After
         ensures { λ r. ⌜ r ≡ settled self (writing self after room) ⌝ }
     {
-        if self.is_open() & self.uses_tac() {
+        if (self.state == Self::OPEN) & self.uses_tac() {
             if self.dynamic() {
                 if message::CHANGE_LENGTH <= room {
                     return self.send(after, message::CHANGE_LENGTH as u16);

@@ -1,6 +1,7 @@
 // What a sound session is, rule by rule.
 ghost use mathlib.Core.Path.{_≡_};
-ghost use Rattle.session.specs.Session.{spareZero, forceSound, listedSound, openSound, helloSound, heldSound, goneSound, sound};
+ghost use mathlib.Core.Bool.{_&&_};
+ghost use Rattle.session.specs.Session.{spareZero, forceSound, openSound, heldSound, goneSound, sound};
 use crate::Session;
 use kinds::SacApp;
 use kinds::TaId;
@@ -30,15 +31,8 @@ impl Session {
     fn force_sound(self) -> bool
         ensures { λ r. ⌜ r ≡ forceSound self ⌝ }
     {
-        let met = self.is_open() & (self.uses_tac() & !(self.negotiated() == 0));
+        let met = (self.state == Self::OPEN) & (self.uses_tac() & !(self.negotiated() == 0));
         !self.in_force() | met
-    }
-
-    // Listed empty unless in force.
-    fn listed_sound(self) -> bool
-        ensures { λ r. ⌜ r ≡ listedSound self ⌝ }
-    {
-        self.in_force() | (self.listed == 0)
     }
 
     // Disabled and dynamic 0 unless Open.
@@ -46,37 +40,27 @@ impl Session {
         ensures { λ r. ⌜ r ≡ openSound self ⌝ }
     {
         let clear = (self.disabled == 0) & !self.dynamic();
-        self.is_open() | clear
+        (self.state == Self::OPEN) | clear
     }
 
-    // Hello number 0 unless recorded.
-    fn hello_sound(self) -> bool
-        ensures { λ r. ⌜ r ≡ helloSound self ⌝ }
+    // Held only if active and not (initiating and drops); Gone only if active, initiating and drops, with no Hello recorded.
+    fn states_sound(self) -> bool
+        ensures { λ r. ⌜ r ≡ heldSound self && goneSound self ⌝ }
     {
-        self.recorded() | (self.hello == 0)
-    }
-
-    // Held only if active and not (initiating and drops).
-    fn held_sound(self) -> bool
-        ensures { λ r. ⌜ r ≡ heldSound self ⌝ }
-    {
-        let met = self.active() & !self.leaves_gone();
-        !self.is_held() | met
-    }
-
-    // Gone only if active, initiating and drops, with no Hello recorded.
-    fn gone_sound(self) -> bool
-        ensures { λ r. ⌜ r ≡ goneSound self ⌝ }
-    {
-        let met = self.active() & (self.leaves_gone() & !self.recorded());
-        !self.is_gone() | met
+        let active = self.active();
+        let leaves_gone = self.leaves_gone();
+        let held = !self.is_held() | (active & !leaves_gone);
+        let gone = !(self.state == Self::GONE) | (active & (leaves_gone & !self.recorded()));
+        held & gone
     }
 
     pub fn sound(self) -> bool
         ensures { λ r. ⌜ r ≡ sound self ⌝ }
     {
-        let states = self.held_sound() & self.gone_sound();
-        let rest = self.open_sound() & (self.hello_sound() & states);
-        self.spare_zero() & (self.force_sound() & (self.listed_sound() & rest))
+        // Listed empty unless in force; Hello number 0 unless recorded.
+        let listed = self.in_force() | (self.listed == 0);
+        let hello = self.recorded() | (self.hello == 0);
+        let rest = self.open_sound() & (hello & self.states_sound());
+        self.spare_zero() & (self.force_sound() & (listed & rest))
     }
 }

@@ -7,9 +7,10 @@ use Rattle.session.proofs.Session.force_sound.Tie as tie
 
 returns : tie.Need-returns
 unfolding forceSound empty
-returns c = simp (c .in-force .ensures, c .before .negotiated .ensures, c .before .before .uses-tac .ensures, c .before .before .before .is-open .ensures)
+returns c = simp (c .in-force .ensures, c .before .negotiated .ensures, c .before .before .uses-tac .ensures)
 
 pub force-sound-spec : {M : Type 1} → statement M
 force-sound-spec =
     tie.close
-    (tie.spec (λ c κs. search needs) (λ c κs. search needs) (λ c κs. search needs) (λ c κs. search needs) returns)
+    (tie.spec
+    (λ c κs. search needs) (λ c κs. search needs) (λ c κs. search needs) returns)

@@ -7,7 +7,10 @@ use Rattle.session.proofs.Session.open_sound.Tie as tie
 
 returns : tie.Need-returns
 unfolding openSound empty
-returns c = simp (c .is-open .ensures, c .before .dynamic .ensures)
+returns c = simp (c .before .dynamic .ensures)
 
 pub open-sound-spec : {M : Type 1} → statement M
-open-sound-spec = tie.close (tie.spec (λ c κs. search needs) (λ c κs. search needs) returns)
+open-sound-spec =
+    tie.close
+    (tie.spec
+    (λ c κs. search needs) returns)
