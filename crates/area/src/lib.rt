@@ -102,17 +102,12 @@ fn take_tlv(again: bool, wrong: bool, found: Reading) -> Reading
 fn pass_other(head: usize, r: Reading) -> Reading
     ensures { λ s. ⌜ s ≡ passOther head r ⌝ }
 {
-    if U_BIT <= head {
+    let t = head % TYPE_COUNT;
+    let is_passed = (PASSED_FIRST <= t) & (t <= PASSED_LAST);
+    if (U_BIT <= head) | is_passed {
         return r;
     }
-    let t = head % TYPE_COUNT;
-    if t < PASSED_FIRST {
-        return refuse(refusals::UNKNOWN_TYPE);
-    }
-    if PASSED_LAST < t {
-        return refuse(refusals::UNKNOWN_TYPE);
-    }
-    r
+    refuse(refusals::UNKNOWN_TYPE)
 }
 
 // A whole TLV, by its type.
