@@ -48,17 +48,37 @@ pub(crate) fn room_length(call: &[u8]) -> usize
     n
 }
 
-// How many octets a call should have, by its first three; 0 for none of ours.
+// How many octets each call has, by its number; those with an area have as many more as its first three say.
+const LENGTHS: [usize; 14] = [
+    0,
+    14,
+    WITH_AREA,
+    WITH_AREA,
+    7,
+    1,
+    5,
+    1,
+    5,
+    1,
+    1,
+    1,
+    WITH_AREA,
+    1 + record::LENGTH,
+];
+
+const WITH_AREA: usize = 3;
+
+// How many octets a call should have; 0 for none of ours.
 fn whole(call: &[u8]) -> usize {
-    match octet(call, 0) {
-        1 => 14,
-        2 | 3 | 12 => 3 + (area_length(call) as usize),
-        4 => 7,
-        5 | 7 | 9 | 10 | 11 => 1,
-        6 | 8 => 5,
-        13 => 1 + record::LENGTH,
-        _ => 0,
+    let which = octet(call, 0) as usize;
+    if which < LENGTHS.len() {
+        let n = LENGTHS[which];
+        if n == WITH_AREA {
+            return n + (area_length(call) as usize);
+        }
+        return n;
     }
+    0
 }
 
 // How many octets a call has; 0 where it is none of ours or cut short.

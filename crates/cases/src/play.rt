@@ -1,6 +1,7 @@
 // Each call, made as C makes it, and its line.
 use crate::calls;
 use crate::lines;
+use libc::STDOUT_FILENO;
 use session::Answer;
 
 fn create(lent: &mut [u8], call: &[u8]) {
@@ -67,10 +68,6 @@ fn retry_interval(lent: &[u8]) {
     lines::number(r.interval as u64);
 }
 
-fn sound(lent: &[u8]) {
-    lines::number(tacit::tacit_sound(lent) as u64);
-}
-
 fn read(call: &[u8]) {
     let r = tacit::tacit_read(calls::area_of(call));
     let tac = r.tac;
@@ -103,7 +100,7 @@ fn by_number(lent: &mut [u8], which: u8, call: &[u8]) {
         8 => permitted(lent, call),
         9 => permitted_kinds(lent),
         10 => retry_interval(lent),
-        11 => sound(lent),
+        11 => lines::number(tacit::tacit_sound(lent) as u64),
         12 => read(call),
         13 => replace(lent, call),
         _ => event(lent, which, call),
@@ -113,7 +110,7 @@ fn by_number(lent: &mut [u8], which: u8, call: &[u8]) {
 // One call and its line.
 pub(crate) fn one(lent: &mut [u8], call: &[u8]) {
     let which = calls::octet(call, 0);
-    lines::call(which);
+    io::print_hex(STDOUT_FILENO, which as u64, 1);
     by_number(lent, which, call);
-    lines::end();
+    io::write_all(STDOUT_FILENO, b"\n");
 }
