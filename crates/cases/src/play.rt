@@ -2,7 +2,9 @@
 use crate::calls;
 use crate::lines;
 use libc::STDOUT_FILENO;
+use row::Limits;
 use session::Answer;
+use session::Session;
 
 fn create(lent: &mut [u8], call: &[u8]) {
     let roles = calls::octet(call, 1) as u16;
@@ -46,7 +48,7 @@ fn change_in(room: &mut [u8], lent: &mut [u8], call: &[u8]) {
 
 fn local_change(lent: &mut [u8], call: &[u8]) {
     let mut room = [0xEEu8; 40];
-    let n = calls::room_length(call);
+    let n = calls::room_length(call, 6);
     change_in(&mut room[..n], lent, call);
 }
 
@@ -93,6 +95,62 @@ fn replace(lent: &mut [u8], call: &[u8]) {
     lines::octets(lent);
 }
 
+fn limits(l: Limits) {
+    let each = l.each;
+    lines::octets(&each);
+}
+
+fn set_limit(call: &[u8]) {
+    let mut each = [0u8; 13];
+    octets::put(
+        &mut each,
+        area::part_of(call, area::Span { start: 1, len: 13 }),
+    );
+    let after = tacit::tacit_set_limit(
+        Limits { each },
+        calls::number(call, 14),
+        calls::number(call, 18),
+    );
+    lines::number(after.refusal as u64);
+    limits(after.limits);
+}
+
+fn load(lent: &[u8]) {
+    let l = tacit::tacit_load(lent);
+    let s = l.session;
+    lines::number(l.refusal as u64);
+    lines::number(s.state as u64);
+    lines::number(s.flags as u64);
+    lines::number(s.disabled as u64);
+    lines::number(s.enabled as u64);
+    lines::number(s.listed as u64);
+    lines::number(s.protects as u64);
+    lines::number(s.hello as u64);
+    lines::number(s.next as u64);
+}
+
+// The session comes by its fields.
+fn store_in(room: &mut [u8], call: &[u8]) {
+    let session = Session {
+        state: calls::octet(call, 1),
+        flags: calls::octet(call, 2),
+        disabled: calls::octet(call, 3),
+        enabled: calls::short(call, 4),
+        listed: calls::short(call, 6),
+        protects: calls::short(call, 8),
+        hello: calls::number(call, 10),
+        next: calls::number(call, 14),
+    };
+    lines::number(tacit::tacit_store(session, room) as u64);
+    lines::octets(room);
+}
+
+fn store(call: &[u8]) {
+    let mut room = [0xEEu8; 40];
+    let n = calls::room_length(call, 18);
+    store_in(&mut room[..n], call);
+}
+
 fn by_number(lent: &mut [u8], which: u8, call: &[u8]) {
     match which {
         1 => create(lent, call),
@@ -103,6 +161,10 @@ fn by_number(lent: &mut [u8], which: u8, call: &[u8]) {
         11 => lines::number(tacit::tacit_sound(lent) as u64),
         12 => read(call),
         13 => replace(lent, call),
+        14 => limits(tacit::tacit_no_limits()),
+        15 => set_limit(call),
+        16 => load(lent),
+        17 => store(call),
         _ => event(lent, which, call),
     }
 }
