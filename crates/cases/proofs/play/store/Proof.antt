@@ -13,4 +13,4 @@ store-spec =
     tie.close
     (tie.spec
     (λ c κs. search needs) (λ c. search needs) slice-aggregate-store-in
-    (λ c κs. search needs) (λ c. search needs) (λ c. search needs))
+    (λ c κs. search needs) (λ c. search needs))
