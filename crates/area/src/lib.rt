@@ -2,7 +2,7 @@
 ghost use mathlib.Core.Path.{_≡_};
 ghost use Prim.Native.Nat.{_+_, _≤_, _<_};
 ghost use lib.ListN.{length};
-ghost use Rattle.area.specs.Found.{refused, withTac, withSac, withDynamic};
+ghost use Rattle.area.specs.Found.{refused};
 ghost use Rattle.area.specs.Area.{areaMost, at16, takeTlv, passOther, byType, tlvAt, readArea, part};
 
 // A part of an area: where it starts, and how many octets it has.
@@ -58,33 +58,6 @@ fn refuse(n: u8) -> Reading
     }
 }
 
-// What was found, with a TLV's value in its slot.
-impl Reading {
-    fn with_tac(mut self, value: Span) -> Reading
-        ensures { λ r. ⌜ r ≡ withTac value self ⌝ }
-    {
-        self.refusal = refusals::NOT_REFUSED;
-        self.tac = value;
-        self
-    }
-
-    fn with_sac(mut self, value: Span) -> Reading
-        ensures { λ r. ⌜ r ≡ withSac value self ⌝ }
-    {
-        self.refusal = refusals::NOT_REFUSED;
-        self.sac = value;
-        self
-    }
-
-    fn with_dynamic(mut self, value: Span) -> Reading
-        ensures { λ r. ⌜ r ≡ withDynamic value self ⌝ }
-    {
-        self.refusal = refusals::NOT_REFUSED;
-        self.dynamic = true;
-        self
-    }
-}
-
 // One of our types: refused where it stood before, then where its length is wrong; else what is found with it.
 fn take_tlv(again: bool, wrong: bool, found: Reading) -> Reading
     ensures { λ r. ⌜ r ≡ takeTlv again wrong found ⌝ }
@@ -102,33 +75,37 @@ fn take_tlv(again: bool, wrong: bool, found: Reading) -> Reading
 fn pass_other(head: usize, r: Reading) -> Reading
     ensures { λ s. ⌜ s ≡ passOther head r ⌝ }
 {
-    if U_BIT <= head {
+    let t = head % TYPE_COUNT;
+    let is_passed = (PASSED_FIRST <= t) & (t <= PASSED_LAST);
+    if (U_BIT <= head) | is_passed {
         return r;
     }
-    let t = head % TYPE_COUNT;
-    if t < PASSED_FIRST {
-        return refuse(refusals::UNKNOWN_TYPE);
-    }
-    if PASSED_LAST < t {
-        return refuse(refusals::UNKNOWN_TYPE);
-    }
-    r
+    refuse(refusals::UNKNOWN_TYPE)
 }
 
-// A whole TLV, by its type.
-fn by_type(head: usize, value: Span, r: Reading) -> Reading
+// A whole TLV, by its type. One of ours is put into what was found.
+fn by_type(head: usize, value: Span, mut r: Reading) -> Reading
     ensures { λ s. ⌜ s ≡ byType head value r ⌝ }
 {
     let t = head % TYPE_COUNT;
     let len = value.len as usize;
     if t == TAC {
-        return take_tlv(0 < r.tac.len, len % ELEMENT_LENGTH != 1, r.with_tac(value));
+        let again = 0 < r.tac.len;
+        r.refusal = refusals::NOT_REFUSED;
+        r.tac = value;
+        return take_tlv(again, len % ELEMENT_LENGTH != 1, r);
     }
     if t == SAC {
-        return take_tlv(0 < r.sac.len, len < 2, r.with_sac(value));
+        let again = 0 < r.sac.len;
+        r.refusal = refusals::NOT_REFUSED;
+        r.sac = value;
+        return take_tlv(again, len < 2, r);
     }
     if t == DYNAMIC {
-        return take_tlv(r.dynamic, len != 1, r.with_dynamic(value));
+        let again = r.dynamic;
+        r.refusal = refusals::NOT_REFUSED;
+        r.dynamic = true;
+        return take_tlv(again, len != 1, r);
     }
     pass_other(head, r)
 }

@@ -23,9 +23,9 @@ pub(crate) fn number(call: &[u8], at: u16) -> u32 {
     0
 }
 
-// How long a call says that its area is.
-fn area_length(call: &[u8]) -> u16 {
-    let two = area::part_of(call, Span { start: 1, len: 2 });
+// Two octets from a place, least significant first; 0 where they are not all there.
+pub(crate) fn short(call: &[u8], at: u16) -> u16 {
+    let two = area::part_of(call, Span { start: at, len: 2 });
     if two.len() == 2 {
         return octets::read16(two, 0);
     }
@@ -33,32 +33,56 @@ fn area_length(call: &[u8]) -> u16 {
 }
 
 pub(crate) fn area_of(call: &[u8]) -> &[u8] {
-    let len = area_length(call);
+    let len = short(call, 1);
     area::part_of(call, Span { start: 3, len })
 }
 
-// How long the room of a local change is: as asked, up to 40 octets.
-pub(crate) fn room_length(call: &[u8]) -> usize
+// How long a room is: as asked at a place, up to 40 octets.
+pub(crate) fn room_length(call: &[u8], at: usize) -> usize
     ensures { λ r. ⌜ r ≤ 40 ⌝ }
 {
-    let n = octet(call, 6) as usize;
+    let n = octet(call, at) as usize;
     if 40 < n {
         return 40;
     }
     n
 }
 
-// How many octets a call should have, by its first three; 0 for none of ours.
+// How many octets each call has, by its number; one with an area has as many more as its second and third say.
+const LENGTHS: [usize; 18] = [
+    0,
+    14, // create
+    WITH_AREA, // initialization
+    WITH_AREA, // capability
+    7, // local change
+    1, // mismatch
+    5, // hello
+    1, // closed
+    5, // permitted
+    1, // permitted kinds
+    1, // retry interval
+    1, // sound
+    WITH_AREA, // read
+    23, // set the record
+    1, // no limits
+    22, // set a limit
+    1, // load
+    19, // store
+];
+
+const WITH_AREA: usize = 3;
+
+// How many octets a call should have; 0 for none of ours.
 fn whole(call: &[u8]) -> usize {
-    match octet(call, 0) {
-        1 => 14,
-        2 | 3 | 12 => 3 + (area_length(call) as usize),
-        4 => 7,
-        5 | 7 | 9 | 10 | 11 => 1,
-        6 | 8 => 5,
-        13 => 1 + record::LENGTH,
-        _ => 0,
+    let which = octet(call, 0) as usize;
+    if which < LENGTHS.len() {
+        let n = LENGTHS[which];
+        if n == WITH_AREA {
+            return n + (short(call, 1) as usize);
+        }
+        return n;
     }
+    0
 }
 
 // How many octets a call has; 0 where it is none of ours or cut short.

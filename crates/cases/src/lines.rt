@@ -3,11 +3,6 @@ use area::Span;
 use libc::STDOUT_FILENO;
 use session::Answer;
 
-// A call's number begins its line.
-pub(crate) fn call(which: u8) {
-    io::print_hex(STDOUT_FILENO, which as u64, 1);
-}
-
 pub(crate) fn number(n: u64) {
     io::write_all(STDOUT_FILENO, b" ");
     io::print_hex(STDOUT_FILENO, n, 1);
@@ -46,8 +41,4 @@ pub(crate) fn octets(octets: &[u8]) {
         return;
     }
     digits(octets);
-}
-
-pub(crate) fn end() {
-    io::write_all(STDOUT_FILENO, b"\n");
 }

@@ -1,7 +1,10 @@
 // Each call, made as C makes it, and its line.
 use crate::calls;
 use crate::lines;
+use libc::STDOUT_FILENO;
+use row::Limits;
 use session::Answer;
+use session::Session;
 
 fn create(lent: &mut [u8], call: &[u8]) {
     let roles = calls::octet(call, 1) as u16;
@@ -45,7 +48,7 @@ fn change_in(room: &mut [u8], lent: &mut [u8], call: &[u8]) {
 
 fn local_change(lent: &mut [u8], call: &[u8]) {
     let mut room = [0xEEu8; 40];
-    let n = calls::room_length(call);
+    let n = calls::room_length(call, 6);
     change_in(&mut room[..n], lent, call);
 }
 
@@ -65,10 +68,6 @@ fn retry_interval(lent: &[u8]) {
     let r = tacit::tacit_retry_interval(lent);
     lines::number(r.refusal as u64);
     lines::number(r.interval as u64);
-}
-
-fn sound(lent: &[u8]) {
-    lines::number(tacit::tacit_sound(lent) as u64);
 }
 
 fn read(call: &[u8]) {
@@ -96,6 +95,62 @@ fn replace(lent: &mut [u8], call: &[u8]) {
     lines::octets(lent);
 }
 
+fn limits(l: Limits) {
+    let each = l.each;
+    lines::octets(&each);
+}
+
+fn set_limit(call: &[u8]) {
+    let mut each = [0u8; 13];
+    octets::put(
+        &mut each,
+        area::part_of(call, area::Span { start: 1, len: 13 }),
+    );
+    let after = tacit::tacit_set_limit(
+        Limits { each },
+        calls::number(call, 14),
+        calls::number(call, 18),
+    );
+    lines::number(after.refusal as u64);
+    limits(after.limits);
+}
+
+fn load(lent: &[u8]) {
+    let l = tacit::tacit_load(lent);
+    let s = l.session;
+    lines::number(l.refusal as u64);
+    lines::number(s.state as u64);
+    lines::number(s.flags as u64);
+    lines::number(s.disabled as u64);
+    lines::number(s.enabled as u64);
+    lines::number(s.listed as u64);
+    lines::number(s.protects as u64);
+    lines::number(s.hello as u64);
+    lines::number(s.next as u64);
+}
+
+// The session comes by its fields.
+fn store_in(room: &mut [u8], call: &[u8]) {
+    let session = Session {
+        state: calls::octet(call, 1),
+        flags: calls::octet(call, 2),
+        disabled: calls::octet(call, 3),
+        enabled: calls::short(call, 4),
+        listed: calls::short(call, 6),
+        protects: calls::short(call, 8),
+        hello: calls::number(call, 10),
+        next: calls::number(call, 14),
+    };
+    lines::number(tacit::tacit_store(session, room) as u64);
+    lines::octets(room);
+}
+
+fn store(call: &[u8]) {
+    let mut room = [0xEEu8; 40];
+    let n = calls::room_length(call, 18);
+    store_in(&mut room[..n], call);
+}
+
 fn by_number(lent: &mut [u8], which: u8, call: &[u8]) {
     match which {
         1 => create(lent, call),
@@ -103,9 +158,13 @@ fn by_number(lent: &mut [u8], which: u8, call: &[u8]) {
         8 => permitted(lent, call),
         9 => permitted_kinds(lent),
         10 => retry_interval(lent),
-        11 => sound(lent),
+        11 => lines::number(tacit::tacit_sound(lent) as u64),
         12 => read(call),
         13 => replace(lent, call),
+        14 => limits(tacit::tacit_no_limits()),
+        15 => set_limit(call),
+        16 => load(lent),
+        17 => store(call),
         _ => event(lent, which, call),
     }
 }
@@ -113,7 +172,7 @@ fn by_number(lent: &mut [u8], which: u8, call: &[u8]) {
 // One call and its line.
 pub(crate) fn one(lent: &mut [u8], call: &[u8]) {
     let which = calls::octet(call, 0);
-    lines::call(which);
+    io::print_hex(STDOUT_FILENO, which as u64, 1);
     by_number(lent, which, call);
-    lines::end();
+    io::write_all(STDOUT_FILENO, b"\n");
 }

@@ -32,11 +32,12 @@ fn message_head(t: u32, len: usize, number: u32) -> [u8; MESSAGE_HEAD]
     requires { ⌜ len < 65536 ⌝ }
     ensures { λ r. ⌜ r ≡ messageHead t len number ⌝ }
 {
+    let counted = 4 + len;
     [
         (t / 256 % 256) as u8,
         (t % 256) as u8,
-        ((4 + len) / 256 % 256) as u8,
-        ((4 + len) % 256) as u8,
+        (counted / 256 % 256) as u8,
+        (counted % 256) as u8,
         (number / 16777216 % 256) as u8,
         (number / 65536 % 256) as u8,
         (number / 256 % 256) as u8,

@@ -41,8 +41,8 @@ fn wide16(x: u8) -> u16
     x as u16
 }
 
-fn wide32(x: u8) -> u32
-    ensures { λ r. ⌜ (r ≡ x) × (r ≤ 255) ⌝ }
+fn wide32(x: u16) -> u32
+    ensures { λ r. ⌜ (r ≡ x) × (r ≤ 65535) ⌝ }
 {
     x as u32
 }
@@ -60,8 +60,5 @@ pub fn read32(octets: &[u8], at: usize) -> u32
     requires { ⌜ at + 3 < length (now octets) ⌝ }
     ensures { λ r. ⌜ r ≡ leAt32 (now (octets .entry)) at ⌝ }
 {
-    wide32(octets[at])
-        + 256 * wide32(octets[at + 1])
-        + 65536 * wide32(octets[at + 2])
-        + 16777216 * wide32(octets[at + 3])
+    wide32(read16(octets, at)) + 65536 * wide32(read16(octets, at + 2))
 }

@@ -33,10 +33,10 @@ fn encoded(s: Session) -> [u8; LENGTH]
     let hello = s.hello;
     let next = s.next;
     [
-        (LENGTH_FIELD % 256) as u8,
-        (LENGTH_FIELD / 256 % 256) as u8,
-        (KIND_FIELD % 256) as u8,
-        (KIND_FIELD / 256 % 256) as u8,
+        LENGTH_FIELD as u8,
+        0,
+        KIND_FIELD as u8,
+        0,
         s.state,
         s.flags,
         (enabled % 256) as u8,

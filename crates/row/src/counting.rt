@@ -82,8 +82,14 @@ impl Tally {
                     count: counts[k],
                 };
             }
-            return crate::not_counted(refusals::OUT_OF_RANGE);
+            return Count {
+                refusal: refusals::OUT_OF_RANGE,
+                count: 0,
+            };
         }
-        crate::not_counted(refusals::NOT_SOUND)
+        Count {
+            refusal: refusals::NOT_SOUND,
+            count: 0,
+        }
     }
 }

@@ -79,18 +79,14 @@ pub fn outside() -> Answer
     after.answer
 }
 
-// No count, and why.
-fn not_counted(refusal: u8) -> Count
-    ensures { λ r. ⌜ r ≡ notCounted refusal ⌝ }
-{
-    Count { refusal, count: 0 }
-}
-
 // The count where the row is none.
 pub fn uncounted() -> Count
     ensures { λ r. ⌜ r ≡ notCounted outsideRow ⌝ }
 {
-    not_counted(refusals::OUTSIDE_ROW)
+    Count {
+        refusal: refusals::OUTSIDE_ROW,
+        count: 0,
+    }
 }
 
 // The pass over the row, which is the only loop over one.

@@ -1,32 +1,30 @@
 // Capability message.
 ghost use mathlib.Core.Path.{_≡_};
+ghost use Rattle.session.specs.With.{withFlags, withListed};
 ghost use Rattle.session.specs.Events.{listAfter, flagsAfter, afterCapability, step, Capability};
 use crate::After;
 use crate::Session;
 use area::Reading;
 
 impl Session {
-    // The peer's list after a TAC: emptied by S = 0; else changed, from the empty one where negotiation was not in force.
-    fn list_after(self, value: &[u8]) -> u16
-        ensures { λ r. ⌜ r ≡ listAfter self (now (value .entry)) ⌝ }
+    // After a TAC: S says whether negotiation is in force. S = 0 empties the peer's list; else it is changed, from the empty one where negotiation
+    // was not in force.
+    fn after_tac(mut self, value: &[u8]) -> Session
+        ensures { λ r. ⌜ r ≡ withListed (withFlags self (flagsAfter self (now (value .entry)))) (listAfter self (now (value .entry))) ⌝ }
     {
         if lists::s_bit(value) {
-            if self.in_force() {
-                return lists::tac_list(value, false, self.listed);
+            let was_in_force = self.in_force();
+            self.flags = crate::raised(self.flags, true, Self::IN_FORCE);
+            if was_in_force {
+                self.listed = lists::tac_list(value, false, self.listed);
+                return self;
             }
-            return lists::tac_list(value, false, 0);
+            self.listed = lists::tac_list(value, false, 0);
+            return self;
         }
-        0
-    }
-
-    // The flags after a TAC: S says whether negotiation is in force.
-    fn flags_after(self, value: &[u8]) -> u8
-        ensures { λ r. ⌜ r ≡ flagsAfter self (now (value .entry)) ⌝ }
-    {
-        if lists::s_bit(value) {
-            return crate::raised(self.flags, true, Self::IN_FORCE);
-        }
-        crate::lowered(self.flags, Self::IN_FORCE)
+        self.flags = crate::lowered(self.flags, Self::IN_FORCE);
+        self.listed = 0;
+        self
     }
 
     // With what the area's TAC and SAC say, before any mismatch is looked for.
@@ -35,17 +33,10 @@ impl Session {
     {
         let tac = found.tac;
         let sac = found.sac;
-        let disabled = lists::sac_list(area::part_of(area, sac), false, self.disabled);
+        self.disabled = lists::sac_list(area::part_of(area, sac), false, self.disabled);
         if self.takes_tac(found) {
-            let value = area::part_of(area, tac);
-            let listed = self.list_after(value);
-            let flags = self.flags_after(value);
-            self.flags = flags;
-            self.listed = listed;
-            self.disabled = disabled;
-            return self;
+            return self.after_tac(area::part_of(area, tac));
         }
-        self.disabled = disabled;
         self
     }
 
@@ -54,7 +45,7 @@ impl Session {
         ensures { λ r. ⌜ r ≡ step self (Capability (now (area .entry))) ⌝ }
     {
         if self.sound() {
-            if self.is_open() {
+            if self.state == Self::OPEN {
                 let found = area::read_area(area);
                 if found.refusal == refusals::NOT_REFUSED {
                     return self.negotiate(self.after_capability(area, found));

@@ -10,7 +10,7 @@ impl Session {
         ensures { λ r. ⌜ r ≡ step self Closed ⌝ }
     {
         if self.sound() {
-            if self.is_open() {
+            if self.state == Self::OPEN {
                 return self.done(self.back_to_ready());
             }
             return self.refused(refusals::WRONG_STATE);

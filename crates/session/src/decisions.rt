@@ -95,7 +95,7 @@ impl Session {
         if after.nothing_common() {
             return self.as_mismatch(after);
         }
-        if after.at_limit(below_limit) {
+        if after.in_force() & (sets::common(after.negotiated(), below_limit) == 0) {
             return self.answered(after.mismatched(), Self::AT_LIMIT, 0);
         }
         self.done(after)

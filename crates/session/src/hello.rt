@@ -21,16 +21,16 @@ impl Session {
         ensures { λ r. ⌜ r ≡ step self (Hello number) ⌝ }
     {
         if self.sound() {
-            if self.is_gone() {
+            if self.state == Self::GONE {
                 return self.done(self.greeted(Self::READY, number));
             }
-            if !self.recorded() {
-                return self.done(self.greeted(self.state, number));
+            if self.recorded() {
+                if self.hello < number {
+                    return self.done(self.greeted(self.held_to_ready(), number));
+                }
+                return self.unchanged();
             }
-            if self.hello < number {
-                return self.done(self.greeted(self.held_to_ready(), number));
-            }
-            return self.unchanged();
+            return self.done(self.greeted(self.state, number));
         }
         self.refused(refusals::NOT_SOUND)
     }

@@ -46,7 +46,7 @@ impl Session {
         ensures { λ r. ⌜ r ≡ step self (Initialization (now (area .entry)) «below_limit») ⌝ }
     {
         if self.sound() {
-            if self.is_ready() {
+            if self.state == Self::READY {
                 let found = area::read_area(area);
                 if found.refusal == refusals::NOT_REFUSED {
                     return self.admit(self.after_initialization(area, found), below_limit);

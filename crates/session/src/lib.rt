@@ -3,7 +3,7 @@
 ghost use mathlib.Core.Path.{_≡_};
 ghost use Prim.Native.Nat.{_<_};
 ghost use Rattle.sets.specs.Set.{minus};
-ghost use Rattle.session.specs.Session.{isReady, isOpen, isHeld, isGone, initiating, active, usesTac, drops, inForce, dynamic, recorded, leavesGone, negotiated, nothingCommon};
+ghost use Rattle.session.specs.Session.{isHeld, active, usesTac, inForce, dynamic, recorded, leavesGone, negotiated, nothingCommon};
 ghost use Rattle.session.specs.With.{heldToReady, noSession};
 ghost use Rattle.session.specs.Creation.{raised};
 
@@ -148,34 +148,10 @@ impl Session {
         }
     }
 
-    fn is_ready(self) -> bool
-        ensures { λ r. ⌜ r ≡ isReady self ⌝ }
-    {
-        self.state == Self::READY
-    }
-
-    fn is_open(self) -> bool
-        ensures { λ r. ⌜ r ≡ isOpen self ⌝ }
-    {
-        self.state == Self::OPEN
-    }
-
     fn is_held(self) -> bool
         ensures { λ r. ⌜ r ≡ isHeld self ⌝ }
     {
         self.state == Self::HELD
-    }
-
-    fn is_gone(self) -> bool
-        ensures { λ r. ⌜ r ≡ isGone self ⌝ }
-    {
-        self.state == Self::GONE
-    }
-
-    fn initiating(self) -> bool
-        ensures { λ r. ⌜ r ≡ initiating self ⌝ }
-    {
-        sets::has(self.flags as u16, Self::INITIATING_BIT)
     }
 
     fn active(self) -> bool
@@ -188,12 +164,6 @@ impl Session {
         ensures { λ r. ⌜ r ≡ usesTac self ⌝ }
     {
         sets::has(self.flags as u16, Self::USES_TAC_BIT)
-    }
-
-    fn drops(self) -> bool
-        ensures { λ r. ⌜ r ≡ drops self ⌝ }
-    {
-        sets::has(self.flags as u16, Self::DROPS_BIT)
     }
 
     fn in_force(self) -> bool
@@ -218,7 +188,8 @@ impl Session {
     fn leaves_gone(self) -> bool
         ensures { λ r. ⌜ r ≡ leavesGone self ⌝ }
     {
-        self.initiating() & self.drops()
+        let flags = self.flags as u16;
+        sets::has(flags, Self::INITIATING_BIT) & sets::has(flags, Self::DROPS_BIT)
     }
 
     // The applications both enabled and listed.

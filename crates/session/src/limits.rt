@@ -1,6 +1,6 @@
-// A session among others: what it uses, and whether a limit turns it away.
+// A session among others: what it uses.
 ghost use mathlib.Core.Path.{_≡_};
-ghost use Rattle.session.specs.Limits.{used, atLimit};
+ghost use Rattle.session.specs.Limits.{used};
 use crate::Session;
 
 impl Session {
@@ -8,16 +8,9 @@ impl Session {
     pub fn used(self) -> u16
         ensures { λ r. ⌜ r ≡ used self ⌝ }
     {
-        if self.is_open() & self.in_force() {
+        if (self.state == Self::OPEN) & self.in_force() {
             return self.negotiated();
         }
         0
-    }
-
-    // In force, and no common application is one of those below their limit.
-    pub(crate) fn at_limit(self, below_limit: u16) -> bool
-        ensures { λ r. ⌜ r ≡ atLimit self «below_limit» ⌝ }
-    {
-        self.in_force() & (sets::common(self.negotiated(), below_limit) == 0)
     }
 }

@@ -1,31 +1,13 @@
 // Local change of one application, on or off.
 ghost use mathlib.Core.Path.{_≡_};
-ghost use Rattle.session.specs.With.{changed, withNextNumber};
+ghost use Rattle.session.specs.With.{withNextNumber};
 ghost use Rattle.session.specs.Decisions.{settled};
-ghost use Rattle.session.specs.Events.{already, writing, step, LocalChange};
+ghost use Rattle.session.specs.Events.{writing, step, LocalChange};
 use crate::After;
 use crate::Session;
 use kinds::TaId;
 
 impl Session {
-    // Whether the application is enabled, or not, already.
-    fn already(self, app: TaId, on: bool) -> bool
-        ensures { λ r. ⌜ r ≡ already self (app .0) on ⌝ }
-    {
-        let enabled = app.is_in(self.enabled);
-        (enabled & on) | (!enabled & !on)
-    }
-
-    // The application set, and a Held session Ready.
-    fn changed(mut self, app: TaId, on: bool) -> Session
-        ensures { λ r. ⌜ r ≡ changed self (app .0) on ⌝ }
-    {
-        let state = self.held_to_ready();
-        self.state = state;
-        self.enabled = app.switched(self.enabled, on);
-        self
-    }
-
     // The next message number; after 4,294,967,295 comes 0.
     pub(crate) fn with_next_number(mut self) -> Session
         ensures { λ r. ⌜ r ≡ withNextNumber self ⌝ }
@@ -38,7 +20,7 @@ impl Session {
     fn writing(self, after: Session, room: usize) -> After
         ensures { λ r. ⌜ r ≡ settled self (writing self after room) ⌝ }
     {
-        if self.is_open() & self.uses_tac() {
+        if (self.state == Self::OPEN) & self.uses_tac() {
             if self.dynamic() {
                 if message::CHANGE_LENGTH <= room {
                     return self.send(after, message::CHANGE_LENGTH as u16);
@@ -56,10 +38,14 @@ impl Session {
     {
         if self.sound() {
             if app.is_known() {
-                if self.already(app, on) {
+                let enabled = app.is_in(self.enabled);
+                if (enabled & on) | (!enabled & !on) {
                     return self.unchanged();
                 }
-                return self.writing(self.changed(app, on), room);
+                let mut after = self;
+                after.state = self.held_to_ready();
+                after.enabled = app.switched(self.enabled, on);
+                return self.writing(after, room);
             }
             return self.refused(refusals::OUT_OF_RANGE);
         }

@@ -43,7 +43,7 @@ impl Session {
         ensures { λ r. ⌜ r ≡ step self Mismatch ⌝ }
     {
         if self.sound() {
-            if self.is_ready() | self.is_open() {
+            if (self.state == Self::READY) | (self.state == Self::OPEN) {
                 return self.as_mismatch(self);
             }
             return self.refused(refusals::WRONG_STATE);

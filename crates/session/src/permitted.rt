@@ -8,7 +8,7 @@ impl Session {
     pub(crate) fn permitted(self) -> u16
         ensures { λ r. ⌜ r ≡ permitted self ⌝ }
     {
-        if self.is_open() {
+        if self.state == Self::OPEN {
             let disabled = kinds::disables(self.disabled);
             if self.in_force() {
                 return sets::minus(kinds::opened(self.negotiated(), self.protects), disabled);

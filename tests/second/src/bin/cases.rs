@@ -1,7 +1,7 @@
 //! Prints what the calls on standard input come to, a line for each. The head
 //! of make_cases.rs says how calls and lines are written.
 
-use second::{Answer, Part, RECORD_LENGTH};
+use second::{Answer, Fields, Limits, Part, RECORD_LENGTH};
 use std::io::{self, Read, Write};
 
 /// Octets of input that are read.
@@ -28,12 +28,35 @@ impl<'a> Input<'a> {
         self.array().map(u8::from_le_bytes)
     }
 
+    fn pair(&mut self) -> Option<u16> {
+        self.array().map(u16::from_le_bytes)
+    }
+
     fn number(&mut self) -> Option<u32> {
         self.array().map(u32::from_le_bytes)
     }
 
+    fn session(&mut self) -> Option<Fields> {
+        Some(Fields {
+            state: self.octet()?,
+            flags: self.octet()?,
+            disabled: self.octet()?,
+            enabled: self.pair()?,
+            listed: self.pair()?,
+            protects: self.pair()?,
+            hello: self.number()?,
+            next: self.number()?,
+        })
+    }
+
+    /// A room as long as asked, up to the most.
+    fn room(&mut self) -> Option<Vec<u8>> {
+        let length = self.octet()?;
+        Some(vec![0xEE; length.min(MOST_ROOM).into()])
+    }
+
     fn area(&mut self) -> Option<&'a [u8]> {
-        let length = self.array().map(u16::from_le_bytes)?;
+        let length = self.pair()?;
         self.octets(length.into())
     }
 }
@@ -61,6 +84,17 @@ impl Line {
         self.number(answer.lost);
         self.number(answer.gained);
         self.number(answer.written);
+    }
+
+    fn session(&mut self, session: Fields) {
+        self.number(session.state);
+        self.number(session.flags);
+        self.number(session.disabled);
+        self.number(session.enabled);
+        self.number(session.listed);
+        self.number(session.protects);
+        self.number(session.hello);
+        self.number(session.next);
     }
 
     fn part(&mut self, part: Part) {
@@ -100,8 +134,7 @@ fn call(input: &mut Input, record: &mut [u8; RECORD_LENGTH]) -> Option<Line> {
             line.octets(record);
         }
         4 => {
-            let (ta_id, on, length) = (input.number()?, input.octet()?, input.octet()?);
-            let mut room = vec![0xEE; length.min(MOST_ROOM).into()];
+            let (ta_id, on, mut room) = (input.number()?, input.octet()?, input.room()?);
             line.answer(second::local_change(record, ta_id, on != 0, &mut room));
             line.octets(record);
             line.octets(&room);
@@ -145,6 +178,23 @@ fn call(input: &mut Input, record: &mut [u8; RECORD_LENGTH]) -> Option<Line> {
             *record = input.array()?;
             line.octets(record);
         }
+        14 => line.octets(&second::no_limits().of),
+        15 => {
+            let limits = Limits { of: input.array()? };
+            let limited = second::set_limit(limits, input.number()?, input.number()?);
+            line.number(limited.refusal);
+            line.octets(&limited.limits.of);
+        }
+        16 => {
+            let loaded = second::load(record);
+            line.number(loaded.refusal);
+            line.session(loaded.session);
+        }
+        17 => {
+            let (session, mut room) = (input.session()?, input.room()?);
+            line.number(second::store(session, &mut room));
+            line.octets(&room);
+        }
         _ => return None,
     }
     Some(line)
@@ -184,6 +234,7 @@ mod tests {
     fn a_call_cut_short_ends_the_run() {
         assert_eq!(lines(&[11, 6, 1, 0, 0]), "b 0\n");
         assert_eq!(lines(&[12, 1, 0]), "");
+        assert_eq!(lines(&[[17].as_slice(), &[0; 17]].concat()), "");
         assert_eq!(lines(&[11, 0, 11]), "b 0\n");
     }
 }

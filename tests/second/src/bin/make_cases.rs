@@ -27,10 +27,17 @@
 //! | 11 | sound           |                                                    |
 //! | 12 | read            | length of the area (2), the area                   |
 //! | 13 | set the record  | what takes its place (22), sound or not            |
+//! | 14 | no limits       |                                                    |
+//! | 15 | set a limit     | limits (13), TA-Id (4), limit (4)                  |
+//! | 16 | load            |                                                    |
+//! | 17 | store           | a session, length of the room (1)                  |
 //!
 //! Roles from bit 0: initiating, active, uses TAC, drops; the other bits are not
-//! read. A room has as many octets as asked for, but never more than 40, and each
-//! is 0xEE before the call. The run ends at the end of the input, at a call whose
+//! read. Limits are an octet for each application, from TA-Id 1 on. A session is
+//! its fields: state (1), flags (1), disabled (1), enabled (2), listed (2),
+//! protected kinds (2), Hello number (4), next message number (4). A room has as
+//! many octets as asked for, but never more than 40, and each is 0xEE before the
+//! call. `load` reads the record, and `store` leaves it alone. The run ends at the end of the input, at a call whose
 //! arguments are cut short, and at any other number. What lies beyond 32,768
 //! octets is not read.
 //!
@@ -51,6 +58,10 @@
 //! |  11 | 0 or 1                                                             |
 //! |  12 | refusal, dynamic, start and length of TAC, start and length of SAC |
 //! |  13 | record                                                             |
+//! |  14 | limits                                                             |
+//! |  15 | refusal, limits                                                    |
+//! |  16 | refusal, the eight fields of the session                           |
+//! |  17 | refusal, room                                                      |
 
 use std::io::{self, Write};
 
@@ -168,6 +179,29 @@ impl Calls {
         assert!(record.len() == 22, "a record of {} octets", record.len());
         self.octets(&[13]);
         self.octets(&record);
+    }
+
+    fn no_limits(&mut self) {
+        self.octets(&[14]);
+    }
+
+    fn set_limit(&mut self, limits: [u8; 13], ta_id: u32, limit: u32) {
+        self.octets(&[15]);
+        self.octets(&limits);
+        self.number(ta_id);
+        self.number(limit);
+    }
+
+    fn load(&mut self) {
+        self.octets(&[16]);
+    }
+
+    fn store(&mut self, session: &str, room: u8) {
+        let session = hex(session);
+        assert!(session.len() == 17, "fields of {} octets", session.len());
+        self.octets(&[17]);
+        self.octets(&session);
+        self.octets(&[room]);
     }
 
     /// A fresh session with these applications enabled.
@@ -451,6 +485,73 @@ fn records(calls: &mut Calls) {
     calls.local_change(4, true, 0);
 }
 
+/// Limits set and refused; what is handed in comes back, over 64 or not.
+fn limits(calls: &mut Calls) {
+    let handed_in = [0, 1, 2, 63, 64, 65, 66, 128, 254, 255, 10, 11, 12];
+    calls.no_limits();
+    for (ta_id, limit) in [(1, 0), (6, 64), (10, 63), (13, 1)] {
+        calls.set_limit(handed_in, ta_id, limit);
+    }
+    // 12
+    for limit in [65, 255, 256, 0xFFFF_FFFF] {
+        calls.set_limit(handed_in, 4, limit);
+    }
+    // 6, before 12
+    for (ta_id, limit) in [(0, 0), (14, 64), (0x1_0001, 1), (0, 65), (0xFFFF_FFFF, 256)] {
+        calls.set_limit(handed_in, ta_id, limit);
+    }
+}
+
+/// Sessions by their fields, taken out of a record and put into one.
+fn by_fields(calls: &mut Calls) {
+    // each of the four states, stored as loaded
+    for (record, session) in [
+        (
+            "1400 0100 00 47 4800 0000 FF03 00 00 04030201 FFFFFFFF",
+            "00 47 00 4800 0000 FF03 04030201 FFFFFFFF",
+        ),
+        (
+            "1400 0100 01 37 FF1F FF1F FF03 0F 00 00000000 08070605",
+            "01 37 0F FF1F FF1F FF03 00000000 08070605",
+        ),
+        (
+            "1400 0100 02 4E 4800 0000 0000 00 00 FFFFFFFF 01000000",
+            "02 4E 00 4800 0000 0000 FFFFFFFF 01000000",
+        ),
+        (
+            "1400 0100 03 0B 4800 0000 0000 00 00 00000000 01000000",
+            "03 0B 00 4800 0000 0000 00000000 01000000",
+        ),
+    ] {
+        calls.record(record);
+        calls.load();
+        calls.store(session, 22);
+    }
+    // a room that is not of 22 octets
+    for room in [0, 21, 23, 40, 0xFF] {
+        calls.store("00 07 00 4800 0000 0000 00000000 01000000", room);
+    }
+    // fields that are not sound: no session, a spare flag, Held and passive
+    for session in [
+        "FF 00 00 0000 0000 0000 00000000 00000000",
+        "00 87 00 4800 0000 0000 00000000 01000000",
+        "02 05 00 4800 0000 0000 00000000 01000000",
+    ] {
+        calls.store(session, 22);
+    }
+    // neither sound nor a room of its size
+    calls.store("FF 00 00 0000 0000 0000 00000000 00000000", 21);
+    // records that are not: by a field, by the kind, by the zero octet
+    for record in [
+        "1400 0100 00 87 4800 0000 0000 00 00 00000000 01000000",
+        "1400 0101 00 07 4800 0000 0000 00 00 00000000 01000000",
+        "1400 0100 00 07 4800 0000 0000 00 01 00000000 01000000",
+    ] {
+        calls.record(record);
+        calls.load();
+    }
+}
+
 fn all() -> Vec<u8> {
     let mut calls = Calls(Vec::new());
     examples(&mut calls);
@@ -463,6 +564,8 @@ fn all() -> Vec<u8> {
     readings(&mut calls);
     numbers(&mut calls);
     records(&mut calls);
+    limits(&mut calls);
+    by_fields(&mut calls);
     calls.0
 }
 

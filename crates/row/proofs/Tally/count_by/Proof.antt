@@ -20,11 +20,11 @@ returns c = simp (c .before .before .if1 .taken, sym (c .before .is-known .ensur
 
 returns-2 : tie.Need-returns-2
 unfolding countBy
-returns-2 c = simp (c .before .before .before .if1 .taken, sym (c .before .before .is-known .ensures) ∙ c .before .if2 .left, c .not-counted .ensures, pick-true, pick-false)
+returns-2 c = simp (c .before .before .if1 .taken, sym (c .before .is-known .ensures) ∙ c .if2 .left, pick-true, pick-false)
 
 returns-3 : tie.Need-returns-3
 unfolding countBy
-returns-3 c = simp (c .before .if1 .left, c .not-counted2 .ensures, pick-false)
+returns-3 c = simp (c .if1 .left, pick-false)
 
 pub count-by-spec : {M : Type 1} → statement M
 count-by-spec =
@@ -33,5 +33,5 @@ count-by-spec =
     (λ c κs. search needs) sub-k
     (λ c. search needs) array-read-t11
     returns
-    (λ c κs. search needs) returns-2
-    (λ c κs. search needs) returns-3)
+    returns-2
+    returns-3)

@@ -2,26 +2,28 @@
 use mathlib.Core.Path.{sym, _∙_}
 use Rattle.choice.proofs.Branch.{pick-true, pick-false}
 use Rattle.session.specs.Decisions.{settled}
+use Rattle.sets.specs.Set.{empty}
+use Rattle.session.specs.Limits.{atLimit}
 use borrow.Author.Needs.{needs}
 use Rattle.session.proofs.Session.admit.Statement.{statement}
 use Rattle.session.proofs.Session.admit.Tie as tie
 
 returns : tie.Need-returns
-unfolding settled
+unfolding settled atLimit empty
 returns c = simp (sym (c .before .before .nothing-common .ensures) ∙ c .before .if1 .taken, c .as-mismatch .ensures, pick-true)
 
 returns-2 : tie.Need-returns-2
-unfolding settled
-returns-2 c = simp (sym (c .before .before .before .before .before .nothing-common .ensures) ∙ c .before .before .before .before .if1 .left, sym (c .before .before .before .at-limit .ensures) ∙ c .before .before .if2 .taken, c .answered .ensures, c .before .mismatched .ensures, pick-true, pick-false)
+unfolding settled atLimit empty
+returns-2 c = simp (sym (c .before .before .before .before .before .before .before .nothing-common .ensures) ∙ c .before .before .before .before .before .before .if1 .left, simp (c .before .before .before .before .before .in-force .ensures, c .before .before .before .before .negotiated .ensures, c .before .before .before .common .ensures) at (c .before .before .if2 .taken), c .answered .ensures, c .before .mismatched .ensures, pick-true, pick-false)
 
 returns-3 : tie.Need-returns-3
-unfolding settled
-returns-3 c = simp (sym (c .before .before .before .before .nothing-common .ensures) ∙ c .before .before .before .if1 .left, sym (c .before .before .at-limit .ensures) ∙ c .before .if2 .left, c .done .ensures, pick-false)
+unfolding settled atLimit empty
+returns-3 c = simp (sym (c .before .before .before .before .before .before .nothing-common .ensures) ∙ c .before .before .before .before .before .if1 .left, simp (c .before .before .before .before .in-force .ensures, c .before .before .before .negotiated .ensures, c .before .before .common .ensures) at (c .before .if2 .left), c .done .ensures, pick-false)
 
 pub admit-spec : {M : Type 1} → statement M
 admit-spec =
     tie.close
     (tie.spec
     (λ c κs. search needs) (λ c κs. search needs) returns
-    (λ c κs. search needs) (λ c κs. search needs) (λ c κs. search needs) returns-2
+    (λ c κs. search needs) (λ c κs. search needs) (λ c κs. search needs) (λ c κs. search needs) (λ c κs. search needs) returns-2
     (λ c κs. search needs) returns-3)

@@ -10,15 +10,15 @@ use Rattle.session.proofs.Session.capability.Tie as tie
 
 returns : tie.Need-returns
 unfolding settled onCapability
-returns c = simp (sym (c .before .before .before .before .before .before .before .before .sound .ensures) ∙ c .before .before .before .before .before .before .before .if1 .taken, sym (c .before .before .before .before .before .before .is-open .ensures) ∙ c .before .before .before .before .before .if2 .taken, eq-eqb _ _ (c .before .before .if3 .taken), c .negotiate .ensures, c .before .after-capability .ensures, sym (c .before .before .before .before .read-area .ensures), pick-true)
+returns c = simp (sym (c .before .before .before .before .before .before .before .before .sound .ensures) ∙ c .before .before .before .before .before .before .before .if1 .taken, eq-eqb _ _ (c .before .before .before .before .before .if2 .taken), eq-eqb _ _ (c .before .before .if3 .taken), c .negotiate .ensures, c .before .after-capability .ensures, sym (c .before .before .before .before .read-area .ensures), pick-true)
 
 returns-2 : tie.Need-returns-2
 unfolding settled onCapability
-returns-2 c = simp (sym (c .before .before .before .before .before .before .before .sound .ensures) ∙ c .before .before .before .before .before .before .if1 .taken, sym (c .before .before .before .before .before .is-open .ensures) ∙ c .before .before .before .before .if2 .taken, ne-eqb _ _ (c .before .if3 .left), c .refused .ensures, sym (c .before .before .before .read-area .ensures), pick-true, pick-false)
+returns-2 c = simp (sym (c .before .before .before .before .before .before .before .sound .ensures) ∙ c .before .before .before .before .before .before .if1 .taken, eq-eqb _ _ (c .before .before .before .before .if2 .taken), ne-eqb _ _ (c .before .if3 .left), c .refused .ensures, sym (c .before .before .before .read-area .ensures), pick-true, pick-false)
 
 returns-3 : tie.Need-returns-3
 unfolding settled onCapability
-returns-3 c = simp (sym (c .before .before .before .before .sound .ensures) ∙ c .before .before .before .if1 .taken, sym (c .before .before .is-open .ensures) ∙ c .before .if2 .left, c .refused2 .ensures, pick-true, pick-false)
+returns-3 c = simp (sym (c .before .before .before .before .sound .ensures) ∙ c .before .before .before .if1 .taken, ne-eqb _ _ (c .before .if2 .left), c .refused2 .ensures, pick-true, pick-false)
 
 returns-4 : tie.Need-returns-4
 unfolding settled onCapability
@@ -28,8 +28,7 @@ pub capability-spec : {M : Type 1} → statement M
 capability-spec =
     tie.close
     (tie.spec
-    (λ c κs. search needs) (λ c κs. search needs) (λ c κs. search needs) (λ c κs. search needs) (λ c κs. search needs)
-    returns
+    (λ c κs. search needs) (λ c κs. search needs) (λ c κs. search needs) (λ c κs. search needs) returns
     (λ c κs. search needs) returns-2
     (λ c κs. search needs) returns-3
     (λ c κs. search needs) returns-4)

@@ -9,11 +9,11 @@ use Rattle.session.proofs.Session.local_change.Tie as tie
 
 returns : tie.Need-returns
 unfolding settled onLocalChange
-returns c = simp (sym (c .before .before .before .before .before .before .sound .ensures) ∙ c .before .before .before .before .before .if1 .taken, sym (c .before .before .before .before .is-known .ensures) ∙ c .before .before .before .if2 .taken, sym (c .before .before .already .ensures) ∙ c .before .if3 .taken, c .unchanged .ensures, pick-true)
+returns c = simp (sym (c .before .before .before .before .before .before .sound .ensures) ∙ c .before .before .before .before .before .if1 .taken, sym (c .before .before .before .before .is-known .ensures) ∙ c .before .before .before .if2 .taken, simp (c .before .before .is-in .ensures) at (c .before .if3 .taken), c .unchanged .ensures, pick-true)
 
 returns-2 : tie.Need-returns-2
 unfolding settled onLocalChange
-returns-2 c = simp (sym (c .before .before .before .before .before .before .before .sound .ensures) ∙ c .before .before .before .before .before .before .if1 .taken, sym (c .before .before .before .before .before .is-known .ensures) ∙ c .before .before .before .before .if2 .taken, sym (c .before .before .before .already .ensures) ∙ c .before .before .if3 .left, c .writing .ensures, c .before .changed .ensures, pick-true, pick-false)
+returns-2 c = simp (sym (c .before .before .before .before .before .before .before .before .sound .ensures) ∙ c .before .before .before .before .before .before .before .if1 .taken, sym (c .before .before .before .before .before .before .is-known .ensures) ∙ c .before .before .before .before .before .if2 .taken, simp (c .before .before .before .before .is-in .ensures) at (c .before .before .before .if3 .left), c .writing .ensures, c .before .switched .ensures, c .before .before .held-to-ready .ensures, pick-true, pick-false)
 
 returns-3 : tie.Need-returns-3
 unfolding settled onLocalChange
@@ -28,6 +28,6 @@ local-change-spec =
     tie.close
     (tie.spec
     (λ c κs. search needs) (λ c κs. search needs) (λ c κs. search needs) (λ c κs. search needs) returns
-    (λ c κs. search needs) (λ c κs. search needs) returns-2
+    (λ c κs. search needs) (λ c κs. search needs) (λ c κs. search needs) returns-2
     (λ c κs. search needs) returns-3
     (λ c κs. search needs) returns-4)

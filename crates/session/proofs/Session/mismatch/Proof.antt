@@ -9,11 +9,11 @@ use Rattle.session.proofs.Session.mismatch.Tie as tie
 
 returns : tie.Need-returns
 unfolding settled onMismatch
-returns c = simp (sym (c .before .before .before .before .before .sound .ensures) ∙ c .before .before .before .before .if1 .taken, simp (c .before .before .before .is-ready .ensures, c .before .before .is-open .ensures) at (c .before .if2 .taken), c .as-mismatch .ensures, pick-true)
+returns c = simp (sym (c .before .before .before .before .before .sound .ensures) ∙ c .before .before .before .before .if1 .taken, c .before .if2 .taken, c .as-mismatch .ensures, pick-true)
 
 returns-2 : tie.Need-returns-2
 unfolding settled onMismatch
-returns-2 c = simp (sym (c .before .before .before .before .before .sound .ensures) ∙ c .before .before .before .before .if1 .taken, simp (c .before .before .before .is-ready .ensures, c .before .before .is-open .ensures) at (c .before .if2 .left), c .refused .ensures, pick-true, pick-false)
+returns-2 c = simp (sym (c .before .before .before .before .before .sound .ensures) ∙ c .before .before .before .before .if1 .taken, c .before .if2 .left, c .refused .ensures, pick-true, pick-false)
 
 returns-3 : tie.Need-returns-3
 unfolding settled onMismatch
@@ -23,6 +23,6 @@ pub mismatch-spec : {M : Type 1} → statement M
 mismatch-spec =
     tie.close
     (tie.spec
-    (λ c κs. search needs) (λ c κs. search needs) (λ c κs. search needs) (λ c κs. search needs) returns
+    (λ c κs. search needs) (λ c κs. search needs) returns
     (λ c κs. search needs) returns-2
     (λ c κs. search needs) returns-3)

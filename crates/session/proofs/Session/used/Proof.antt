@@ -7,12 +7,15 @@ use Rattle.session.proofs.Session.used.Tie as tie
 
 returns : tie.Need-returns
 unfolding used
-returns c = simp (simp (c .before .before .in-force .ensures, c .before .before .before .is-open .ensures) at (c .before .if1 .taken), c .negotiated .ensures, pick-true)
+returns c = simp (simp (c .before .before .in-force .ensures) at (c .before .if1 .taken), c .negotiated .ensures, pick-true)
 
 returns-2 : tie.Need-returns-2
 unfolding used
-returns-2 c = simp (simp (c .before .in-force .ensures, c .before .before .is-open .ensures) at (c .if1 .left), pick-false)
+returns-2 c = simp (simp (c .before .in-force .ensures) at (c .if1 .left), pick-false)
 
 pub used-spec : {M : Type 1} → statement M
 used-spec =
-    tie.close (tie.spec (λ c κs. search needs) (λ c κs. search needs) (λ c κs. search needs) returns returns-2)
+    tie.close
+    (tie.spec
+    (λ c κs. search needs) (λ c κs. search needs) returns
+    returns-2)
