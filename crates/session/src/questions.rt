@@ -79,7 +79,7 @@ impl Session {
     fn why(self, kind: u16) -> u8
         ensures { λ r. ⌜ r ≡ why self kind ⌝ }
     {
-        if !self.is_open() {
+        if !(self.state == Self::OPEN) {
             return Self::NOT_OPEN;
         }
         if sets::has(kinds::disables(self.disabled), kind) {

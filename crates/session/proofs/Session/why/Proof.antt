@@ -1,6 +1,5 @@
 -- `Session::why` meets its contract: each return by the tests that led there. Assumes nothing.
-use mathlib.Core.Path.{sym, ap, _∙_}
-use mathlib.Core.Bool.{not}
+use mathlib.Core.Path.{sym, _∙_}
 use Rattle.choice.proofs.Branch.{pick-true, pick-false}
 use Rattle.session.specs.Questions.{why}
 use borrow.Author.Needs.{needs}
@@ -9,29 +8,29 @@ use Rattle.session.proofs.Session.why.Tie as tie
 
 returns : tie.Need-returns
 unfolding why
-returns c = simp (ap not (sym (c .before .is-open .ensures)) ∙ c .if1 .taken, pick-true)
+returns c = simp (c .if1 .taken, pick-true)
 
 returns-2 : tie.Need-returns-2
 unfolding why
-returns-2 c = simp (ap not (sym (c .before .before .before .before .is-open .ensures)) ∙ c .before .before .before .if1 .left, sym (c .before .has .ensures) ∙ c .if2 .taken, sym (c .before .before .disables .ensures), pick-true, pick-false)
+returns-2 c = simp (c .before .before .before .if1 .left, sym (c .before .has .ensures) ∙ c .if2 .taken, sym (c .before .before .disables .ensures), pick-true, pick-false)
 
 returns-3 : tie.Need-returns-3
 unfolding why
-returns-3 c = simp (ap not (sym (c .before .before .before .before .before .before .is-open .ensures)) ∙ c .before .before .before .before .before .if1 .left, sym (c .before .before .before .has .ensures) ∙ c .before .before .if2 .left, sym (c .before .before .before .before .disables .ensures), sym (c .before .unopened .ensures) ∙ c .if3 .taken, pick-true, pick-false)
+returns-3 c = simp (c .before .before .before .before .before .if1 .left, sym (c .before .before .before .has .ensures) ∙ c .before .before .if2 .left, sym (c .before .before .before .before .disables .ensures), sym (c .before .unopened .ensures) ∙ c .if3 .taken, pick-true, pick-false)
 
 returns-4 : tie.Need-returns-4
 unfolding why
-returns-4 c = simp (ap not (sym (c .before .before .before .before .before .before .before .before .before .is-open .ensures)) ∙ c .before .before .before .before .before .before .before .before .if1 .left, sym (c .before .before .before .before .before .before .has .ensures) ∙ c .before .before .before .before .before .if2 .left, sym (c .before .before .before .before .before .before .before .disables .ensures), sym (c .before .before .before .before .unopened .ensures) ∙ c .before .before .before .if3 .left, sym (c .before .unopened2 .ensures) ∙ c .if4 .taken, sym (c .before .before .negotiated .ensures), pick-true, pick-false)
+returns-4 c = simp (c .before .before .before .before .before .before .before .before .if1 .left, sym (c .before .before .before .before .before .before .has .ensures) ∙ c .before .before .before .before .before .if2 .left, sym (c .before .before .before .before .before .before .before .disables .ensures), sym (c .before .before .before .before .unopened .ensures) ∙ c .before .before .before .if3 .left, sym (c .before .unopened2 .ensures) ∙ c .if4 .taken, sym (c .before .before .negotiated .ensures), pick-true, pick-false)
 
 returns-5 : tie.Need-returns-5
 unfolding why
-returns-5 c = simp (ap not (sym (c .before .before .before .before .before .before .before .before .before .is-open .ensures)) ∙ c .before .before .before .before .before .before .before .before .if1 .left, sym (c .before .before .before .before .before .before .has .ensures) ∙ c .before .before .before .before .before .if2 .left, sym (c .before .before .before .before .before .before .before .disables .ensures), sym (c .before .before .before .before .unopened .ensures) ∙ c .before .before .before .if3 .left, sym (c .before .unopened2 .ensures) ∙ c .if4 .left, sym (c .before .before .negotiated .ensures), pick-false)
+returns-5 c = simp (c .before .before .before .before .before .before .before .before .if1 .left, sym (c .before .before .before .before .before .before .has .ensures) ∙ c .before .before .before .before .before .if2 .left, sym (c .before .before .before .before .before .before .before .disables .ensures), sym (c .before .before .before .before .unopened .ensures) ∙ c .before .before .before .if3 .left, sym (c .before .unopened2 .ensures) ∙ c .if4 .left, sym (c .before .before .negotiated .ensures), pick-false)
 
 pub why-spec : {M : Type 1} → statement M
 why-spec =
     tie.close
     (tie.spec
-    (λ c κs. search needs) returns
+    returns
     (λ c κs. search needs) (λ c κs. search needs) returns-2
     (λ c κs. search needs) returns-3
     (λ c κs. search needs) (λ c κs. search needs) returns-4
