@@ -3,7 +3,7 @@
 ghost use mathlib.Core.Path.{_≡_};
 ghost use Prim.Native.Nat.{_<_};
 ghost use Rattle.sets.specs.Set.{minus};
-ghost use Rattle.session.specs.Session.{isHeld, active, usesTac, inForce, dynamic, recorded, leavesGone, negotiated, nothingCommon};
+ghost use Rattle.session.specs.Session.{active, usesTac, inForce, dynamic, recorded, leavesGone, negotiated, nothingCommon};
 ghost use Rattle.session.specs.With.{heldToReady, noSession};
 ghost use Rattle.session.specs.Creation.{raised};
 
@@ -148,12 +148,6 @@ impl Session {
         }
     }
 
-    fn is_held(self) -> bool
-        ensures { λ r. ⌜ r ≡ isHeld self ⌝ }
-    {
-        self.state == Self::HELD
-    }
-
     fn active(self) -> bool
         ensures { λ r. ⌜ r ≡ active self ⌝ }
     {
@@ -210,7 +204,7 @@ impl Session {
     fn held_to_ready(self) -> u8
         ensures { λ r. ⌜ r ≡ heldToReady self ⌝ }
     {
-        if self.is_held() {
+        if self.state == Self::HELD {
             return Self::READY;
         }
         self.state

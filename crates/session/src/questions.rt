@@ -121,7 +121,7 @@ impl Session {
         ensures { λ r. ⌜ r ≡ retryInterval self ⌝ }
     {
         if self.sound() {
-            if self.is_held() {
+            if self.state == Self::HELD {
                 return Retry {
                     refusal: refusals::NOT_REFUSED,
                     interval: Self::INTERVAL_IN_HELD,

@@ -38,7 +38,7 @@ impl Session {
         // Hello number 0 unless recorded.
         let hello = recorded | (self.hello == 0);
         // Held only if active and not (initiating and drops).
-        let held = !self.is_held() | (active & !leaves_gone);
+        let held = !(self.state == Self::HELD) | (active & !leaves_gone);
         // Gone only if active, initiating and drops, with no Hello recorded.
         let gone = !(self.state == Self::GONE) | (active & (leaves_gone & !recorded));
         spare_zero & (force & (listed & (shut & (hello & (held & gone)))))

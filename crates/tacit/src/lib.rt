@@ -95,21 +95,16 @@ pub extern "C" fn tacit_closed(lent: &mut [u8]) -> Answer
 fn created_in(lent: &mut [u8], made: Created) -> u8
     ensures { λ r. ⌜ CreatedIn made (now (lent .entry)) r (now (lent .exit)) ⌝ }
 {
-    match made {
-        Created::Fresh(session) => {
-            if lent.len() == record::LENGTH {
+    if lent.len() == record::LENGTH {
+        match made {
+            Created::Fresh(session) => {
                 record::stored_in(session, lent);
                 return refusals::NOT_REFUSED;
             }
-            refusals::NOT_SOUND
-        }
-        Created::Refused(n) => {
-            if lent.len() == record::LENGTH {
-                return n;
-            }
-            refusals::NOT_SOUND
+            Created::Refused(n) => return n,
         }
     }
+    refusals::NOT_SOUND
 }
 
 #[no_mangle]

@@ -7,10 +7,10 @@ use Rattle.session.proofs.Session.sound.Tie as tie
 
 returns : tie.Need-returns
 unfolding sound spareZero forceSound listedSound openSound helloSound heldSound goneSound below empty
-returns c = simp (c .before .is-held .ensures, c .before .before .before .dynamic .ensures, c .before .before .before .before .before .before .negotiated .ensures, c .before .before .before .before .before .before .before .uses-tac .ensures, c .before .before .before .before .before .before .before .before .before .before .before .before .before .before .recorded .ensures, c .before .before .before .before .before .before .before .before .before .before .before .before .before .before .before .leaves-gone .ensures, c .before .before .before .before .before .before .before .before .before .before .before .before .before .before .before .before .active .ensures, c .before .before .before .before .before .before .before .before .before .before .before .before .before .before .before .before .before .in-force .ensures)
+returns c = simp (c .before .before .before .dynamic .ensures, c .before .before .before .before .before .before .negotiated .ensures, c .before .before .before .before .before .before .before .uses-tac .ensures, c .before .before .before .before .before .before .before .before .before .before .before .before .before .before .recorded .ensures, c .before .before .before .before .before .before .before .before .before .before .before .before .before .before .before .leaves-gone .ensures, c .before .before .before .before .before .before .before .before .before .before .before .before .before .before .before .before .active .ensures, c .before .before .before .before .before .before .before .before .before .before .before .before .before .before .before .before .before .in-force .ensures)
 
 pub sound-spec : {M : Type 1} → statement M
 sound-spec =
     tie.close
     (tie.spec
-    (λ c κs. search needs) (λ c κs. search needs) (λ c κs. search needs) (λ c κs. search needs) (λ c κs. search needs) (λ c κs. search needs) (λ c κs. search needs) (λ c κs. search needs) returns)
+    (λ c κs. search needs) (λ c κs. search needs) (λ c κs. search needs) (λ c κs. search needs) (λ c κs. search needs) (λ c κs. search needs) (λ c κs. search needs) returns)
