@@ -12,8 +12,7 @@ TACIT_LIB_DIR ?= build
 library := $(TACIT_LIB_DIR)/libtacit.a
 here    := TACIT_LIB_DIR="$(abspath $(TACIT_LIB_DIR))"
 proved  := crates.txt $(shell find crates -name '*.rt' -o -name '*.antt' 2>/dev/null)
-
-.PHONY: all help install demo test c-test compare mutants mutants-few second clean distclean always
+.PHONY: all help install demo test documents c-test compare mutants mutants-few second clean distclean always
 .DELETE_ON_ERROR:
 
 all: $(library) build/tacit.h build/tacit.pc
@@ -29,6 +28,7 @@ help:
 	@echo "make mutants    break the second implementation rule by rule; each must be noticed; MUTANTS=names for some"
 	@echo "make coverage   how much of the library's code such a comparison runs, by function (*)"
 	@echo "make second     the second implementation's own tests"
+	@echo "make documents  do the documents name what is there, and does promises::kept hold what they cite"
 	@echo "make fuzz       the two on inputs that a fuzzer makes; SECONDS=$(SECONDS) (*)"
 	@echo "make outside    what the library writes read by Wireshark, what FRR sends read by the library (*)"
 	@echo "make bench      instructions of each call, into docs/BENCHMARK.md (*)"
@@ -111,6 +111,9 @@ few := area-3-before-5 tac-by-position permitted-despite-sac change-9-not-asked 
        record-lists-swapped row-another-touched library-writes-behind
 mutants-few: $(library)
 	@$(here) tests/mutants/run --calls 100000 --seed $(SEED) $(few)
+
+documents:
+	@tests/documents/run
 
 second:
 	cd tests/second && cargo test --offline

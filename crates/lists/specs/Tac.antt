@@ -27,7 +27,7 @@ idAt v i = at16 v (elementLength * i + 1)
 unfoldable pub eAt : List ℕ → ℕ → Bool
 eAt v i = hasTopBit (getD v (elementLength * i + 3) 0)
 
--- "E = 1 adds and E = 0 removes", and in an opening (Initialization) E is not read: each one present is listed
+-- "E = 1 adds .. and E = 0 removes", and in an opening (Initialization) E is not read: each one present is listed
 abbrev pub adds : List ℕ → Bool → ℕ → Bool
 adds v opening i = opening || eAt v i
 

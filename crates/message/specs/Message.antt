@@ -20,7 +20,7 @@ element n on = be16 n ++ (topBit on ∷ 0 ∷ [])
 abbrev pub tacValue : Bool → List ℕ → List ℕ
 tacValue s elements = topBit s ∷ elements
 
--- a TLV of ours: "their U and F bits are written as 1 and 0"
+-- a TLV of ours: "their U and F bits .. are written as 1 and 0"
 abbrev pub ours : ℕ → List ℕ → Tlv
 ours type value = record { head = uBit + type; value = value }
 

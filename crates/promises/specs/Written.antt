@@ -1,4 +1,4 @@
--- Condition 2: "our messages, read back, give what was written". Assumes nothing.
+-- Condition 2: "Our messages .., read back, give what was written". Assumes nothing.
 use Prim.Native.Nat.{ℕ}
 use mathlib.Core.Path.{_≡_}
 use mathlib.Core.Bool.{Bool, true, false}

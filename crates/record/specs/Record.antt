@@ -1,5 +1,5 @@
--- Stored record: "22 octets, little-endian: length 20 (2), kind 1 (2), state (1), flags (1), enabled (2), listed (2), protected kinds (2),
--- disabled (1), zero (1), Hello number (4), next message number (4)". Assumes nothing.
+-- Stored record: "22 octets, little-endian: length 20 (2), kind 1 (2), state (1 ..), flags (1), enabled (2 ..), listed (2), protected kinds (2 ..),
+-- disabled (1 ..), zero (1), Hello number (4), next message number (4)". Assumes nothing.
 use Prim.Native.Nat.{ℕ, _-_, _<_, _^_}
 use mathlib.Core.Path.{_≡_}
 use mathlib.Core.Bool.{Bool, true, _&&_}
@@ -35,7 +35,7 @@ encoded s =
 unfoldable pub storedIn : Session → List ℕ → List ℕ
 storedIn s l = pick (eqb (length l) recordLength) (encoded s) l
 
--- "length, kind as above" and the zero octet
+-- "length, kind .. as above" and the zero octet
 unfoldable pub headed : List ℕ → Bool
 headed l = eqb (leAt16 l 0) lengthField && (eqb (leAt16 l 2) kindField && eqb (getD l 13 0) 0)
 
@@ -57,7 +57,7 @@ fields l =
 unfoldable pub decoded : List ℕ → Session
 decoded l = pick (eqb (length l) recordLength) (pick (headed l) (fields l) noSession) noSession
 
--- "Our records, read back, give what was written": a sound session is read back as it was stored
+-- "Our .. records, read back, give what was written": a sound session is read back as it was stored
 abbrev pub ReadBack : Type 0
 ReadBack = (s : Session) → sound s ≡ true → s .hello < 2 ^ 32 → s .next < 2 ^ 32 → decoded (encoded s) ≡ s
 

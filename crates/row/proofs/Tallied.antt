@@ -1,5 +1,5 @@
 -- What the pass over a row finds is what the row has: whether all are sound, and for each application how many use it, as far as a limit can ask. So an
--- event by what the pass found is the event of the row. Counts stop at 64 and no limit is over 64, so that "fewer than its limit" comes out the same.
+-- event by what the pass found is the event of the row. Counts stop at 64 and no limit is over 64, so that fewer than its limit comes out the same.
 -- By induction over the row and over the thirteen places. Assumes emptyTally.
 use Prim.Native.Nat.{ℕ, zero, suc, _+_, _-_, _<_, _≤_, zero-le}
 use mathlib.Core.Path.{_≡_, refl, sym, ap, ap₂, _∙_}

@@ -52,8 +52,9 @@ onInitialization s a belowLimit =
     checked s (pick (isReady s) (unlessRefused r (Admit (afterInitialization s a r) belowLimit)) (Refused wrongState))
 
 -- ---- Capability message (Open only)
--- "with S = 0 the list is emptied and negotiation goes out of force; with S = 1 and negotiation in force E = 1 adds to the peer's list and E = 0
--- removes; with S = 1 and negotiation not in force the list starts empty, the elements apply and negotiation comes into force"
+-- "With S = 0 the TAC's elements count for nothing, the list is emptied and negotiation goes out of force. With S = 1 and negotiation in force, E = 1
+-- adds to the peer's list and E = 0 removes. With S = 1 and negotiation not in force, the list starts empty, the elements apply and negotiation comes
+-- into force"
 unfoldable pub listAfter : Session → List ℕ → ℕ
 listAfter s v = pick (sBit v) (tacList v false (pick (inForce s) (s .listed) 0)) 0
 

@@ -38,10 +38,12 @@ impl Session {
     {
         if self.sound() {
             if app.is_known() {
+                // Already so.
                 let enabled = app.is_in(self.enabled);
                 if (enabled & on) | (!enabled & !on) {
                     return self.unchanged();
                 }
+                // The application set, and a Held session Ready.
                 let mut after = self;
                 after.state = self.held_to_ready();
                 after.enabled = app.switched(self.enabled, on);
