@@ -1,18 +1,16 @@
 -- What is promised of runs is promised of the calls: each event's call is that event by the law of its contract (tacit/proofs/Calls.antt), so a run of calls
 -- leaves the record that the events lead to, and the session in it is the one that they lead to. Assumes nothing.
-use Prim.Native.Nat.{ℕ, _<_, _^_}
+use Prim.Native.Nat.{ℕ}
 use mathlib.Core.Path.{_≡_, refl, sym, ap, _∙_, subst}
 use mathlib.Core.Bool.{Bool, true, false, false≢true}
 use mathlib.Core.Logic.{_↔_}
-use mathlib.Core.List.{List, [], _∷_}
+use mathlib.Core.List.{List, _∷_}
 use native.Mathlib.Omega.{arith}
 use borrow.Author.Tests.{lt-ltb}
 use Rattle.choice.specs.Pick.{pick}
-use Rattle.choice.proofs.Branch.{taken, left}
+use Rattle.choice.proofs.Branch.{taken}
 use Rattle.sets.specs.Set.{has}
-use Rattle.refusals.specs.Refusals.{notRefused}
 use Rattle.kinds.specs.Kinds.{allApplications}
-use Rattle.session.specs.declared.Answer.{Answer}
 use Rattle.session.specs.declared.Session.{Session}
 use Rattle.session.specs.Session.{isOpen, sound, permitted}
 use Rattle.session.specs.Questions.{permission}
@@ -22,10 +20,9 @@ use Rattle.record.specs.Record.{decoded}
 use Rattle.record.specs.Carried.{recordAfter}
 use Rattle.tacit.proofs.Calls.{initialization-is, capability-is, local-change-is, local-change-room, mismatch-is, hello-is, closed-is}
 use Rattle.promises.specs.Run.{StaysOpen}
-use Rattle.promises.specs.Words.{Permits}
-use Rattle.promises.specs.Records.{Octets, recordRun, AllNumbered}
+use Rattle.promises.specs.Records.{recordRun, AllNumbered}
 use Rattle.promises.specs.Condition3.{NeverLess}
-use Rattle.promises.specs.Calls.{Called, tacit-initialization, tacit-capability, tacit-local-change, tacit-mismatch, tacit-hello, tacit-closed, CallsAreEvents, RoomsAreEvents, CalledRun, ended, called, CallsFollow, CallsAnswer, PermittedIsAsked, StaysOpenUnder, CallsCondition3}
+use Rattle.promises.specs.Calls.{tacit-initialization, tacit-capability, tacit-local-change, tacit-mismatch, tacit-hello, tacit-closed, CallsAreEvents, RoomsAreEvents, CalledRun, ended, called, CallsFollow, CallsAnswer, PermittedIsAsked, StaysOpenUnder, CallsCondition3}
 use Rattle.promises.proofs.Records.{Holds, holds, holds-after, still, run-holds, records-follow}
 use Rattle.promises.proofs.Condition3.{condition-3}
 

@@ -1,7 +1,7 @@
 -- Creation leaves the record of a fresh session, which is sound, or is refused: by cases on its two tests, and the round trip of records. Assumes nothing.
 use Prim.Native.Nat.{ℕ, _<_, _^_}
 use mathlib.Core.Path.{_≡_, refl, sym, ap, _∙_, subst}
-use mathlib.Core.Bool.{Bool, true, false, _&&_}
+use mathlib.Core.Bool.{Bool, true, false}
 use mathlib.Core.List.{List}
 use lib.Dec.{eqb, lit<}
 use lib.ListN.{length}
@@ -17,10 +17,10 @@ use Rattle.session.specs.declared.Created.{Created}
 use Rattle.session.specs.declared.Created.the-variants.{Fresh, Refused}
 use Rattle.session.specs.Session.{sound}
 use Rattle.session.specs.With.{fresh}
-use Rattle.session.specs.Creation.{roleFlags, created, refusalOf}
+use Rattle.session.specs.Creation.{roleFlags, created}
 use Rattle.session.proofs.SoundMeans.{means-sound}
 use Rattle.session.proofs.Made.{fresh-sound}
-use Rattle.record.specs.Record.{recordLength, encoded, storedIn, decoded}
+use Rattle.record.specs.Record.{recordLength, storedIn, decoded}
 use Rattle.record.proofs.RoundTrip.{read-back}
 use Rattle.tacit.specs.Creation.{creationRefusal, createdIn}
 use Rattle.promises.specs.Calls.{CreationIsSound}

@@ -1,15 +1,15 @@
 -- What is promised of rows is promised of the C call: by its contract it is the row's event, so a run of calls leaves the row that the events lead to.
 -- Assumes nothing.
 use Prim.Native.Nat.{ℕ}
-use mathlib.Core.Path.{_≡_, refl, sym, ap, _∙_, subst}
-use mathlib.Core.List.{List, [], _∷_}
+use mathlib.Core.Path.{refl, sym, ap, _∙_, subst}
+use mathlib.Core.List.{List, _∷_}
 use Rattle.session.specs.declared.Session.{Session}
 use Rattle.session.specs.Session.{isOpen}
 use Rattle.row.specs.Row.{sessionAt}
 use Rattle.promises.specs.Condition3.{NeverLess}
 use Rattle.promises.specs.Rows.{RowEvent, rowRun}
 use Rattle.promises.specs.RowCondition3.{StaysOpenAt}
-use Rattle.promises.specs.RowCalls.{RowCalled, tacit-row-event, RowCallsAreEvents, RowCalledRun, ended, called, RowCallsFollow, StaysOpenAtUnder, RowCallsCondition3}
+use Rattle.promises.specs.RowCalls.{tacit-row-event, RowCallsAreEvents, RowCalledRun, ended, called, RowCallsFollow, StaysOpenAtUnder, RowCallsCondition3}
 use Rattle.promises.proofs.RowCondition3.{row-condition-3}
 
 pub row-calls-are-events : RowCallsAreEvents

@@ -8,7 +8,7 @@ use lib.Dec.{eqb, ltb, leb}
 use lib.ListN.{length}
 use native.Mathlib.Decide.{decLt, ℕ-discrete}
 use native.Mathlib.Omega.{arith}
-use borrow.Author.Tests.{ltb-true, eqb-true, eq-eqb, ne-eqb}
+use borrow.Author.Tests.{ltb-true, eq-eqb, ne-eqb}
 use Rattle.choice.specs.Pick.{pick}
 use Rattle.choice.proofs.Branch.{by-test, taken, left}
 use Rattle.choice.proofs.Tests.{and-first}
@@ -26,10 +26,10 @@ use Rattle.row.specs.declared.EventNumbers.{EventNumbers}
 use Rattle.row.specs.Limiting.{mostSessions}
 use Rattle.row.specs.Events.{eventOf}
 use Rattle.row.specs.Row.{sessionAt, allSound, inRow, eventIn, eventAt}
-use Rattle.promises.specs.Records.{Octets, recordRun, AllNumbered}
+use Rattle.promises.specs.Records.{recordRun, AllNumbered}
 use Rattle.promises.specs.Rows.{RowEvent, rowStep, rowThen, rowRun}
 use Rattle.promises.specs.RowRecords.{RowNumbered, AllNarrow, NarrowOverRows, eventsOf, RowIsRun, RowRecordsFollow}
-use Rattle.promises.proofs.Records.{Holds, holds, run-holds, records-follow}
+use Rattle.promises.proofs.Records.{holds, run-holds, records-follow}
 use Rattle.promises.proofs.Rows.{at-set, others-stay, rows-length, sound-at, then-sound, outside-then}
 
 -- ---- the events of one session

@@ -16,7 +16,7 @@ use Rattle.session.specs.declared.Reason.{Reason}
 use Rattle.session.specs.Session.{isOpen, inForce, negotiated, sound, Sound, Negotiates}
 use Rattle.session.specs.Questions.{whyNotListed, unopened, why, whyNot}
 use Rattle.session.proofs.SoundMeans.{sound-means}
-use Rattle.session.proofs.PermittedMeans.{permitted-means, means-permitted}
+use Rattle.session.proofs.PermittedMeans.{negotiates-of, permitted-means, means-permitted}
 use Rattle.record.specs.Record.{decoded}
 use Rattle.promises.specs.Words.{Enables, Lists, Maps, Disables, Permits}
 use Rattle.promises.specs.Why.{NotOpen, NotEnabled, NotListed, FirstThatHolds, WhyNot}
@@ -45,19 +45,6 @@ module _ (s : Session) (k : ℕ) where
   application : (a : ℕ) → opens-it a ≡ true → Some (opens (s .protects)) applicationCount a k
   unfolding opens-it
   application a h = opened-some (s .protects) a k h
-
-  -- both enabled and listed
-  negotiates : Some (opens (s .protects)) applicationCount (negotiated s) k → Negotiates s k
-  negotiates o =
-      let e = sym (has-common (s .enabled) (s .listed) (o .number - 1)) ∙ o .member in
-      record {
-        number = o .number;
-        least = o .least;
-        most = o .most;
-        is-enabled = and-first (has (s .enabled) (o .number - 1)) _ e;
-        is-listed = and-second (has (s .enabled) (o .number - 1)) _ e;
-        maps = o .maps;
-      }
 
   by-negotiated : (n : ℕ) → Enables s n → Lists s n → Maps s n k → opens-it (negotiated s) ≡ true
   by-negotiated n e l m =
@@ -125,7 +112,7 @@ module _ (s : Session) (k : ℕ) where
     permits : isOpen s ≡ true → (Disables s k → ⊥) → unopened s (negotiated s) k ≡ false → Permits s k
     permits o d v =
         means-permitted s k
-        (record { is-open = o; kind = l; not-disabled = d; negotiates = λ f. negotiates (application (negotiated s) (opened-by (negotiated s) v f)) })
+        (record { is-open = o; kind = l; not-disabled = d; negotiates = λ f. negotiates-of s k (application (negotiated s) (opened-by (negotiated s) v f)) })
 
     told : Sentence (why s k)
     unfolding Sentence why
@@ -167,7 +154,7 @@ module _ (s : Session) (k : ℕ) where
         is-unopened (negotiated s) (w .in-force)
         (off (opens-it (negotiated s))
         (λ e.
-        let o = negotiates (application (negotiated s) e) in
+        let o = negotiates-of s k (application (negotiated s) e) in
         w .none-listed (o .number) (in-set (s .enabled) (o .number) (o .least) (o .most) (o .is-enabled)) (o .maps)
         (in-set (s .listed) (o .number) (o .least) (o .most) (o .is-listed))))
 

@@ -20,7 +20,6 @@ use Rattle.kinds.specs.Kinds.{applicationCount, knownApplication, isIn}
 use Rattle.octets.specs.Octets.{over}
 use Rattle.area.specs.declared.Reading.{Reading}
 use Rattle.area.specs.Area.{part}
-use Rattle.lists.specs.Tac.{tacList}
 use Rattle.lists.specs.Sac.{sacAfter, sacList}
 use Rattle.message.specs.Message.{messageHeadLength, oneElement, tacOctets, messageOf, changeLength, roomWith}
 use Rattle.message.proofs.ReadBack.{oneTac, last-nine, read-back, s-back, list-back}

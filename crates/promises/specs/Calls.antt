@@ -9,7 +9,6 @@ use lib.ListN.{length}
 use Rattle.refusals.specs.Refusals.{notRefused}
 use Rattle.kinds.specs.Kinds.{kindCount, allApplications}
 use Rattle.session.specs.declared.Answer.{Answer}
-use Rattle.session.specs.declared.Session.{Session}
 use Rattle.session.specs.Session.{isOpen, sound}
 use Rattle.session.specs.With.{fresh}
 use Rattle.session.specs.Creation.{roleFlags, created}

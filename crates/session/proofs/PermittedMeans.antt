@@ -27,8 +27,8 @@ kind-of a k h e = go (decLt k kindCount)
 
 module _ (s : Session) (k : ℕ) where
   -- an application of the common set is both enabled and listed
-  both : Some (opens (s .protects)) applicationCount (negotiated s) k → Negotiates s k
-  both o =
+  pub negotiates-of : Some (opens (s .protects)) applicationCount (negotiated s) k → Negotiates s k
+  negotiates-of o =
       let e = sym (has-common (s .enabled) (s .listed) (o .number - 1)) ∙ o .member in
       record {
         number = o .number;
@@ -80,7 +80,7 @@ module _ (s : Session) (k : ℕ) where
             is-open = e;
             kind = offered-kind (r .protects) o;
             not-disabled = λ d. true≢false (sym (some-disables (s .disabled) k d) ∙ not-false _ (and-second (has offered k) _ t));
-            negotiates = λ f. both (opened-some (s .protects) (negotiated s) k (sym (ap (λ (p : ℕ). has p k) (taken _ _ f)) ∙ o));
+            negotiates = λ f. negotiates-of (opened-some (s .protects) (negotiated s) k (sym (ap (λ (p : ℕ). has p k) (taken _ _ f)) ∙ o));
           }
 
   pub means-permitted : Permitted s k → has (permitted s) k ≡ true

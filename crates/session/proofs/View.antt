@@ -1,7 +1,7 @@
 -- What an event comes to, once for every event: along the tests of its definition, the facts that hold of what it is decided to come to, and that it follows
 -- when more applications are enabled. Soundness, numbers of 32 bits, limits, what is written and condition 3 are read off here and not
 -- from the tests; a new event proves its view. Of one session it is the view of the session beside itself. Assumes nothing.
-use Prim.Native.Nat.{ℕ, _-_, _^_, _<_, _≤_}
+use Prim.Native.Nat.{ℕ, _-_, _≤_}
 use mathlib.Core.Path.{_≡_, refl, sym, ap, _∙_, subst}
 use mathlib.Core.Bool.{Bool, true, false, not, _&&_, _||_, false≢true}
 use mathlib.Core.List.{List}
