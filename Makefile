@@ -54,7 +54,7 @@ export shown
 build/libtacit.a: $(proved)
 	@command -v rt >/dev/null || { echo "rt, the Rattle toolchain, is not on the PATH: libtacit.a cannot be built without it (see README.md)" >&2; exit 1; }
 	@mkdir -p build
-	@echo "proving the library crate by crate; from nothing this takes some three minutes"
+	@echo "proving the library crate by crate; from nothing this takes some two minutes"
 	@bash -o pipefail -c 'rt staticlib tacit 2>&1 | tee build/staticlib.log | awk "$$shown"' || { cat build/staticlib.log >&2; exit 1; }
 	@cp target/staticlib/libtacit.a $@
 
