@@ -16,16 +16,15 @@ use Rattle.refusals.specs.Refusals.{notRefused}
 use Rattle.session.specs.declared.Session.{Session}
 use Rattle.session.specs.declared.After.{After}
 use Rattle.session.specs.Session.{sound, Sound, Narrow}
-use Rattle.session.specs.Events.{Event, Numbered, step, run}
+use Rattle.session.specs.Events.{Event, step, run}
 use Rattle.session.proofs.SoundMeans.{sound-means, means-sound}
 use Rattle.session.proofs.Steps.{step-narrow}
 use Rattle.record.specs.declared.Loaded.{Loaded}
 use Rattle.record.specs.Record.{encoded, storedIn, decoded}
 use Rattle.record.specs.Loaded.{load, storeOctets}
-use Rattle.row.specs.declared.EventNumbers.{EventNumbers}
 use Rattle.row.specs.Limiting.{mostSessions}
-use Rattle.row.specs.Events.{eventOf}
 use Rattle.row.specs.Row.{sessionAt, allSound, inRow, eventIn, eventAt}
+use Rattle.row.proofs.EventCases.{numbered-own}
 use Rattle.promises.specs.Records.{recordRun, AllNumbered}
 use Rattle.promises.specs.Rows.{RowEvent, rowStep, rowThen, rowRun}
 use Rattle.promises.specs.RowRecords.{RowNumbered, AllNarrow, NarrowOverRows, eventsOf, RowIsRun, RowRecordsFollow}
@@ -33,22 +32,11 @@ use Rattle.promises.proofs.Records.{holds, run-holds, records-follow}
 use Rattle.promises.proofs.Rows.{at-set, others-stay, rows-length, sound-at, then-sound, outside-then}
 
 -- ---- the events of one session
--- only a Hello has a number that a session keeps
-numbered : (e : EventNumbers) (b : ℕ) (area : List ℕ) (room : ℕ) → e .number < 2 ^ 32 → Numbered (eventOf e b area room)
-unfolding eventOf
-numbered e b area room h =
-    by-test Numbered (λ _. tt)
-    (λ _. by-test Numbered (λ _. tt)
-    (λ _. by-test Numbered (λ _. tt)
-    (λ _. by-test Numbered (λ _. tt)
-    (λ _. by-test Numbered (λ _. h)
-    (λ _. by-test Numbered (λ _. tt) (λ _. tt))))))
-
 all-numbered : (at : ℕ) (row : List Session) (es : List RowEvent) → RowNumbered es → AllNumbered (eventsOf at row es)
 all-numbered at row [] k = tt
 all-numbered at row (e ∷ es) k =
     let rest = all-numbered at (rowThen row e) es (k .1) in
-    by-test AllNumbered (λ _. (numbered (e .event) _ (e .area) (length (e .room)) (k .0), rest)) (λ _. rest)
+    by-test AllNumbered (λ _. (numbered-own (e .event) _ (e .area) (length (e .room)) (k .0), rest)) (λ _. rest)
 
 -- ---- numbers of 32 bits
 module _ (row : List Session) (e : RowEvent) (n : AllNarrow row) (k : e .event .number < 2 ^ 32) where
@@ -59,7 +47,7 @@ module _ (row : List Session) (e : RowEvent) (n : AllNarrow row) (k : e .event .
       by-test Fits
       (λ i. by-test Fits
       (λ h. step-narrow s (sound-means s (sound-at row (e .at) h (ltb-true (e .at) (length row) (and-first (ltb (e .at) (length row)) _ i)))) (n (e .at))
-      (eventIn row (e .event) (e .limits) (e .area) (length (e .room))) (numbered (e .event) _ (e .area) (length (e .room)) k))
+      (eventIn row (e .event) (e .limits) (e .area) (length (e .room))) (numbered-own (e .event) _ (e .area) (length (e .room)) k))
       (λ _. n (e .at)))
       (λ _. n (e .at))
     where
