@@ -34,6 +34,7 @@ pub record Promises : Type 0 where
   -- sessions and their events
   pub sound-means : SoundMeans
   pub permitted-means : PermittedMeans
+  pub why-not : WhyNot
   pub sound-over-runs : SoundOverRuns
   pub refused-is-nothing : RefusedIsNothing
   pub room-stays : RoomStays
@@ -73,7 +74,6 @@ pub record Promises : Type 0 where
   pub narrow-over-rows : NarrowOverRows
   pub row-is-run : RowIsRun
   pub row-records-follow : RowRecordsFollow
-  pub why-not : WhyNot
   -- computed
   pub examples : Examples
   pub why-it-stops : WhyItStops
