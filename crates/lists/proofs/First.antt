@@ -86,8 +86,8 @@ listed-is-present v n least most = present v n least most (elementCount v)
 
 -- ---- an unknown identifier
 pub unknown-is-skipped : UnknownIsSkipped
-unfolding switched
-unknown-is-skipped s n on h = left _ _ h
+unfolding after switched
+unknown-is-skipped v opening s i h = by-test (λ (x : ℕ). x ≡ after v opening s i) (λ _. refl) (λ _. left _ _ h)
 
 -- ---- no bits beyond the applications
 after-lt : (v : List ℕ) (opening : Bool) (s : ℕ) → s < 2 ^ applicationCount → (i : ℕ) → after v opening s i < 2 ^ applicationCount

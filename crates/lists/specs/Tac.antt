@@ -70,6 +70,6 @@ AbsentStays =
 abbrev pub ListedIsPresent : Type 0
 ListedIsPresent = (v : List ℕ) (n : ℕ) → 1 ≤ n → n ≤ applicationCount → has (tacList v true 0) (n - 1) ≡ stood v n (elementCount v)
 
--- an unknown one is skipped
+-- an unknown one: "its element is skipped"
 abbrev pub UnknownIsSkipped : Type 0
-UnknownIsSkipped = (s n : ℕ) (on : Bool) → numbered applicationCount n ≡ false → switched applicationCount s n on ≡ s
+UnknownIsSkipped = (v : List ℕ) (opening : Bool) (s i : ℕ) → numbered applicationCount (idAt v i) ≡ false → after v opening s (suc i) ≡ after v opening s i
