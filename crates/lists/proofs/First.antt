@@ -8,14 +8,24 @@ use mathlib.Core.Path.{_≡_, _∙_, sym, ap, refl}
 use mathlib.Core.List.{List}
 use mathlib.Core.Bool.{Bool, true, false, _||_}
 use lib.Dec.{eqb}
-use borrow.Author.Tests.{eq-eqb, ne-eqb}
+use borrow.Author.Tests.{eq-eqb, ne-eqb, eqb-false}
 use Rattle.choice.proofs.Branch.{by-test, taken, left}
 use Rattle.sets.specs.Set.{has, switched}
 use Rattle.sets.proofs.Members.{has-none}
 use Rattle.sets.proofs.Switches.{switched-same, switched-other, switched-lt}
 use Rattle.kinds.specs.Kinds.{applicationCount}
 use Rattle.lists.specs.Tac.{elementCount, idAt, adds, stood, after, tacList, First, FirstDecides, AbsentStays, ListedIsPresent, UnknownIsSkipped}
-use Rattle.lists.proofs.Turn.{stood-found}
+use Rattle.lists.specs.Met.{MetIsStood, UnknownIsNotMet}
+
+-- an element below i has the identifier
+stood-found : (v : List ℕ) (n j i : ℕ) → j < i → idAt v j ≡ n → stood v n i ≡ true
+unfolding stood
+stood-found v n j zero h e = absurd (omega arith)
+stood-found v n j (suc i) h e = go (λ l. stood-found v n j i l e) (eqb (idAt v i) n) refl
+  where
+    go : (j < i → stood v n i ≡ true) → (x : Bool) → eqb (idAt v i) n ≡ x → (x || stood v n i) ≡ true
+    go f true p = refl
+    go f false p = let other : (j ≡ i → ⊥) = λ q. eqb-false (idAt v i) n p (rw q at e) in f (omega arith)
 
 -- where no element has the identifier, it did not stand
 stood-none : (v : List ℕ) (n i : ℕ) → ((j : ℕ) → j < i → idAt v j ≡ n → ⊥) → stood v n i ≡ false
@@ -67,27 +77,29 @@ pub absent-stays : AbsentStays
 unfolding tacList inSet
 absent-stays v opening s n least most = none-among v opening s n least most (elementCount v)
 
--- ---- Initialization: "the peer's list is every known TA-Id present"
-module _ (v : List ℕ) (n : ℕ) (least : 1 ≤ n) (most : n ≤ applicationCount) where
-  present : (i : ℕ) → has (after v true 0 i) (n - 1) ≡ stood v n i
-  unfolding after stood inSet
-  present zero = has-none (n - 1)
-  present (suc i) = go (ℕ-discrete (idAt v i) n) (stood v n i) refl (present i)
-    where
-      go : Dec (idAt v i ≡ n) → (x : Bool) → stood v n i ≡ x → has (after v true 0 i) (n - 1) ≡ stood v n i
-          → has (after v true 0 (suc i)) (n - 1) ≡ (eqb (idAt v i) n || stood v n i)
-      go (yes p) true q h = keeps v true 0 n least most i (λ _. q) ∙ h ∙ q ∙ sym (ap (λ (b : Bool). b || stood v n i) (eq-eqb _ _ p))
-      go (yes p) false q h = says v true 0 n least most i p q ∙ sym (ap (λ (b : Bool). b || stood v n i) (eq-eqb _ _ p))
-      go (no p) x q h = keeps v true 0 n least most i (λ e. absurd (p e)) ∙ h ∙ sym (ap (λ (b : Bool). b || stood v n i) (ne-eqb _ _ p))
+-- ---- in an opening from the empty list: the known identifiers that stood
+pub met-is-stood : MetIsStood
+unfolding after stood inSet
+met-is-stood v n least most zero = has-none (n - 1)
+met-is-stood v n least most (suc i) = go (ℕ-discrete (idAt v i) n) (stood v n i) refl (met-is-stood v n least most i)
+  where
+    go : Dec (idAt v i ≡ n) → (x : Bool) → stood v n i ≡ x → has (after v true 0 i) (n - 1) ≡ stood v n i
+        → has (after v true 0 (suc i)) (n - 1) ≡ (eqb (idAt v i) n || stood v n i)
+    go (yes p) true q h = keeps v true 0 n least most i (λ _. q) ∙ h ∙ q ∙ sym (ap (λ (b : Bool). b || stood v n i) (eq-eqb _ _ p))
+    go (yes p) false q h = says v true 0 n least most i p q ∙ sym (ap (λ (b : Bool). b || stood v n i) (eq-eqb _ _ p))
+    go (no p) x q h = keeps v true 0 n least most i (λ e. absurd (p e)) ∙ h ∙ sym (ap (λ (b : Bool). b || stood v n i) (ne-eqb _ _ p))
 
 pub listed-is-present : ListedIsPresent
 unfolding tacList
-listed-is-present v n least most = present v n least most (elementCount v)
+listed-is-present v n least most = met-is-stood v n least most (elementCount v)
 
 -- ---- an unknown identifier
 pub unknown-is-skipped : UnknownIsSkipped
 unfolding after switched
 unknown-is-skipped v opening s i h = by-test (λ (x : ℕ). x ≡ after v opening s i) (λ _. refl) (λ _. left _ _ h)
+
+pub unknown-is-not-met : UnknownIsNotMet
+unknown-is-not-met v = unknown-is-skipped v true 0
 
 -- ---- no bits beyond the applications
 after-lt : (v : List ℕ) (opening : Bool) (s : ℕ) → s < 2 ^ applicationCount → (i : ℕ) → after v opening s i < 2 ^ applicationCount

@@ -1,4 +1,4 @@
-pub mod Turn
 pub mod First
+pub mod Turn
 pub mod Later
 pub mod Examples

@@ -1,40 +1,37 @@
--- One turn of the loop over a TAC's elements, said of `after`: an element whose identifier stood earlier counts for nothing, and any other
--- applies. The look-back's answer is `stood`. Assumes nothing.
-use Prim.Native.Nat.{ℕ, zero, suc, _+_, _<_}
-use native.Mathlib.Omega.{arith}
+-- One turn of the loop over a TAC's elements, said of `after`: what was met decides as what stood does. For a known identifier the two are one by
+-- `met-is-stood`; an unknown one changes nothing either way. Assumes nothing.
+use Prim.Native.Nat.{ℕ, suc, _-_, _+_}
 use native.Mathlib.Numerals.{add-one}
-use mathlib.Core.Path.{_≡_, _∙_, sym, refl}
+use mathlib.Core.Path.{_≡_, _∙_, sym, ap, refl}
 use mathlib.Core.List.{List}
-use mathlib.Core.Bool.{Bool, true, false, _||_}
-use lib.Dec.{eqb}
-use borrow.Author.Tests.{eqb-false, ne-eqb}
+use mathlib.Core.Bool.{Bool, true, false, _&&_}
 use Rattle.choice.specs.Pick.{pick}
-use Rattle.sets.specs.Set.{switched}
-use Rattle.kinds.specs.Kinds.{applicationCount}
+use Rattle.choice.proofs.Branch.{by-test, left}
+use Rattle.sets.specs.Set.{has, switched}
+use Rattle.sets.proofs.Switches.{numbered-is}
+use Rattle.kinds.specs.Kinds.{applicationCount, knownApplication, isIn}
 use Rattle.lists.specs.Tac.{idAt, adds, stood, after}
-
--- one more element without the identifier
-pub stood-more : (v : List ℕ) (n j : ℕ) → (idAt v j ≡ n → ⊥) → stood v n j ≡ false → stood v n (j + 1) ≡ false
-unfolding stood
-stood-more v n j h e = simp (add-one, ne-eqb _ _ h) e
-
--- an element below i has the identifier
-pub stood-found : (v : List ℕ) (n j i : ℕ) → j < i → idAt v j ≡ n → stood v n i ≡ true
-unfolding stood
-stood-found v n j zero h e = absurd (omega arith)
-stood-found v n j (suc i) h e = go (λ l. stood-found v n j i l e) (eqb (idAt v i) n) refl
-  where
-    go : (j < i → stood v n i ≡ true) → (x : Bool) → eqb (idAt v i) n ≡ x → (x || stood v n i) ≡ true
-    go f true p = refl
-    go f false p = let other : (j ≡ i → ⊥) = λ q. eqb-false (idAt v i) n p (rw q at e) in f (omega arith)
+use Rattle.lists.specs.Met.{met, tacElement}
+use Rattle.lists.proofs.First.{met-is-stood, unknown-is-skipped}
 
 module _ (v : List ℕ) (opening : Bool) (s i : ℕ) where
-  -- element i repeats the identifier of element j
-  pub repeat : (j : ℕ) {x y : ℕ} → x ≡ idAt v i → y ≡ idAt v j → y ≡ x → j < i → after v opening s i ≡ after v opening s (i + 1)
-  unfolding after pick
-  repeat j p q r h = simp (add-one, stood-found v (idAt v i) j i h (sym q ∙ r ∙ p))
+  abbrev element : ℕ
+  element = tacElement (met v i) (after v opening s i) (idAt v i) (adds v opening i)
 
-  -- none of the elements before element i has its identifier
-  pub fresh : {x : ℕ} → x ≡ idAt v i → stood v x i ≡ false → switched applicationCount (after v opening s i) x (adds v opening i) ≡ after v opening s (i + 1)
-  unfolding after pick
-  fresh p e = rw p (simp (add-one, (rw p at e)))
+  known : knownApplication (idAt v i) ≡ true → element ≡ after v opening s (suc i)
+  unfolding tacElement after isIn
+  known h =
+      let l = numbered-is applicationCount (idAt v i) h in
+      let same : isIn (met v i) (idAt v i) ≡ stood v (idAt v i) i = ap (λ (b : Bool). b && has (met v i) (idAt v i - 1)) h ∙ met-is-stood v (idAt v i) (l .0) (l .1) i in
+      ap (λ (b : Bool). pick b (after v opening s i) (switched applicationCount (after v opening s i) (idAt v i) (adds v opening i))) same
+
+  unknown : knownApplication (idAt v i) ≡ false → element ≡ after v opening s (suc i)
+  unfolding tacElement switched
+  unknown h = by-test (λ (x : ℕ). x ≡ after v opening s i) (λ _. refl) (λ _. left _ _ h) ∙ sym (unknown-is-skipped v opening s i h)
+
+  pub turn : element ≡ after v opening s (i + 1)
+  turn = go (knownApplication (idAt v i)) refl ∙ ap (after v opening s) (sym (add-one i))
+    where
+      go : (x : Bool) → knownApplication (idAt v i) ≡ x → element ≡ after v opening s (suc i)
+      go true = known
+      go false = unknown

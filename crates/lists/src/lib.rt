@@ -1,6 +1,7 @@
 // The element lists of a TAC and of a SAC, and what they make of a set. `opening` is an Initialization, else a Capability message.
 ghost use mathlib.Core.Path.{_≡_};
 ghost use Prim.Native.Nat.{_<_};
+ghost use Rattle.lists.specs.Met.{tacElement};
 ghost use Rattle.lists.specs.Sac.{sacElement, sacList};
 ghost use Rattle.lists.specs.Tac.{sBit, elementCount, idAt, adds, tacList};
 use kinds::SacApp;
@@ -45,20 +46,27 @@ fn adds(value: &[u8], opening: bool, i: usize) -> bool
     octets::TOP_BIT <= value[area::ELEMENT_LENGTH * i + 3]
 }
 
-// The set of applications after a TAC's elements. Each is looked back from: of equal identifiers the first decides.
+// The set after one element of a TAC: one whose identifier was met before it counts for nothing.
+fn tac_element(met: u16, set: u16, id: u16, adds: bool) -> u16
+    ensures { λ r. ⌜ r ≡ tacElement met set id adds ⌝ }
+{
+    if TaId(id as u32).is_in(met) {
+        return set;
+    }
+    TaId(id as u32).switched(set, adds)
+}
+
+// The set of applications after a TAC's elements. The known identifiers met are remembered: of equal ones the first decides.
 pub fn tac_list(value: &[u8], opening: bool, listed: u16) -> u16
     ensures { λ r. ⌜ r ≡ tacList (now (value .entry)) opening listed ⌝ }
 {
     let n = element_count(value);
     let mut set = listed;
-    'elements: for i in 0..n {
+    let mut met: u16 = 0;
+    for i in 0..n {
         let id = id_at(value, i);
-        for j in 0..i {
-            if id_at(value, j) == id {
-                continue 'elements;
-            }
-        }
-        set = TaId(id as u32).switched(set, adds(value, opening, i));
+        set = tac_element(met, set, id, adds(value, opening, i));
+        met = tac_element(met, met, id, true);
     }
     set
 }

@@ -1,72 +1,46 @@
--- `lists::tac_list` meets its contract. The outer loop's invariant: the set is that after the first i elements. The look-back's: the identifier
--- is not among the first j. Assumes nothing.
+-- `lists::tac_list` meets its contract. The loop's invariant: the set is that after the first i elements, and what was met is what they had.
+-- Assumes nothing.
 use borrow.Author.Needs.{needs}
 use native.Mathlib.Omega.{arith}
 use mathlib.Core.Path.{_≡_, _∙_}
-use mathlib.Core.Bool.{false}
+use mathlib.Core.Bool.{true}
 use denote.Ref.{now}
 use Prim.Native.Nat.{_≤_, _-_}
-use Rattle.lists.specs.Tac.{elementCount, stood, after, tacList}
-use Rattle.lists.proofs.Turn.{stood-more, repeat, fresh}
+use Rattle.lists.specs.Tac.{elementCount, after, tacList}
+use Rattle.lists.specs.Met.{met}
+use Rattle.lists.proofs.Turn.{turn}
 use Rattle.lists.proofs.tac_list.Statement.{statement}
 use Rattle.lists.proofs.tac_list.Tie as tie
 
 abbrev Inv-loop : tie.InvT-loop
-Inv-loop value opening listed n set i₀ id j₀ i j = (i ≡ i₀) × (j ≤ i) × (stood value id j ≡ false)
+Inv-loop value opening listed n set₀ met₀ i₀ set m i = (i ≤ n) × (set ≡ after value opening listed i) × (m ≡ met value i)
 
 abbrev μ-loop : tie.MeasureT-loop
-μ-loop value opening listed n set i₀ id j₀ i j = i - j
+μ-loop value opening listed n set₀ met₀ i₀ set m i = n - i
 
-abbrev Inv-elements : tie.InvT-elements
-Inv-elements value opening listed n set₀ i₀ set i = (i ≤ n) × (set ≡ after value opening listed i)
-
-abbrev μ-elements : tie.MeasureT-elements
-μ-elements value opening listed n set₀ i₀ set i = n - i
-
-elements-holds : tie.Need-elements-holds Inv-loop μ-loop Inv-elements μ-elements
+loop-holds : tie.Need-loop-holds Inv-loop μ-loop
 unfolding after
-elements-holds c = search needs
-
-loop-holds : tie.Need-loop-holds Inv-loop μ-loop Inv-elements μ-elements
-unfolding stood
 loop-holds c = search needs
 
-elements-again : tie.Need-elements-again Inv-loop μ-loop Inv-elements μ-elements
-elements-again c =
-    let i = c .before .before .before .loop .inv in
-    let e = c .before .before .before .before .before .before .elements .inv .1 in (
-      omega arith,
-      rw (i .0) (e ∙ repeat _ _ _ _ _ (c .before .before .before .before .id-at .ensures) (c .before .id-at2 .ensures) (c .if1 .taken) (omega arith)),
-    )
-
-loop-again : tie.Need-loop-again Inv-loop μ-loop Inv-elements μ-elements
+loop-again : tie.Need-loop-again Inv-loop μ-loop
 loop-again c =
-    let i = c .before .before .before .loop .inv in
-    (i .0, omega arith, stood-more _ _ _ (λ e. c .if1 .left (c .before .id-at2 .ensures ∙ e)) (i .2))
-
-elements-again-2 : tie.Need-elements-again-2 Inv-loop μ-loop Inv-elements μ-elements
-elements-again-2 c =
-    let i = c .before .before .before .loop .inv in
-    let e = c .before .before .before .before .before .before .elements .inv .1 in
-    let passed : c .before .before .before .loop .j ≡ c .before .before .before .before .before .before .elements .i = omega arith in (
+    let inv = c .before .before .before .before .before .loop .inv in
+    let id = c .before .before .before .id-at .ensures in (
       omega arith,
-      c .switched .ensures ∙ rw (e, c .before .adds .ensures, i .0) (fresh _ _ _ _ (c .before .before .before .before .id-at .ensures) (rw passed at (i .2))),
+      c .before .tac-element .ensures ∙ rw (inv .1, inv .2, id, c .before .before .adds .ensures) (turn _ _ _ _),
+      c .tac-element2 .ensures ∙ rw (inv .2, id) (turn _ true 0 _),
     )
 
-returns : tie.Need-returns Inv-loop μ-loop Inv-elements μ-elements
+returns : tie.Need-returns Inv-loop μ-loop
 unfolding tacList
 returns c =
-    let whole : c .before .elements .i ≡ elementCount (now (c .before .before .before .before .args .value)) = omega arith in
-    rw whole at (c .before .elements .inv .1)
+    let whole : c .before .loop .i ≡ elementCount (now (c .before .before .before .before .args .value)) = omega arith in
+    rw whole at (c .before .loop .inv .1)
 
 pub tac-list-spec : {M : Type 1} → statement M
 tac-list-spec =
     tie.close
     (tie.spec
-    Inv-loop μ-loop Inv-elements μ-elements (λ c κs. search needs) elements-holds
-    (λ c κs. omega arith) loop-holds
-    (λ c κs. omega arith) (λ c. omega arith) (λ c. omega arith) elements-again
-    (λ c. omega arith) (λ c. omega arith) loop-again
-    (λ c. search needs) (λ c κs. omega arith) (λ c κs. search needs) (λ c. omega arith) (λ c. omega arith)
-    elements-again-2
+    Inv-loop μ-loop (λ c κs. search needs) loop-holds
+    (λ c κs. omega arith) (λ c κs. omega arith) (λ c κs. search needs) (λ c κs. search needs) (λ c. omega arith) (λ c. omega arith) loop-again
     returns)
