@@ -38,7 +38,10 @@ static struct area six = {39, {0x85, 0x06, 0, 1, 0x80, 0x85, 0x08, 0, 1, 0x80, 0
                                1, 0x80, 0x85, 0x0B, 0, 1, 0x80, 0x85, 0x0D, 0, 2, 0x80, 0xB0,
                                0x85, 0x0F, 0, 9, 0x80, 0, 4, 0x80, 0, 0, 7, 0x80, 0}};
 
-static struct area thousand_elements, thousand_tlvs, none;
+/* A TAC alone: by how many elements it has, and by what they name. */
+static struct area elements_250, elements_500, elements_1000, unknown_1000, repeated_1000;
+
+static struct area thousand_tlvs, none;
 
 static uint8_t ready[TACIT_RECORD_LENGTH], opened[TACIT_RECORD_LENGTH];
 static uint8_t record[TACIT_RECORD_LENGTH], room[TACIT_MESSAGE_LENGTH];
@@ -60,17 +63,29 @@ static void prepare_row(void)
     limits = tacit_set_limit(tacit_no_limits(), 4, 2).limits;
 }
 
+/* A TAC of so many elements, whose TA-Ids are those from `first` to `last`, again and again. */
+static void prepare_tac(struct area *area, unsigned elements, unsigned first, unsigned last)
+{
+    unsigned length = 1 + 4 * elements;
+    uint8_t *next = area->octets;
+    memcpy(next, (const uint8_t[]){0x85, 0x0F, (uint8_t)(length >> 8), (uint8_t)length, 0x80}, 5);
+    next += 5;
+    for (unsigned i = 0; i < elements; i++, next += 4) {
+        unsigned id = first + i % (last - first + 1);
+        memcpy(next, (const uint8_t[]){(uint8_t)(id >> 8), (uint8_t)id, 0x80, 0}, 4);
+    }
+    area->length = (size_t)(next - area->octets);
+}
+
 static void prepare_all(void)
 {
-    /* Elements with the TA-Ids 1 to 1,000. */
-    uint8_t *next = thousand_elements.octets;
-    memcpy(next, (const uint8_t[]){0x85, 0x0F, 4001 >> 8, 4001 & 0xFF, 0x80}, 5);
-    next += 5;
-    for (unsigned id = 1; id <= 1000; id++, next += 4)
-        memcpy(next, (const uint8_t[]){(uint8_t)(id >> 8), (uint8_t)id, 0x80, 0}, 4);
-    thousand_elements.length = (size_t)(next - thousand_elements.octets);
+    prepare_tac(&elements_250, 250, 1, 250);
+    prepare_tac(&elements_500, 500, 1, 500);
+    prepare_tac(&elements_1000, 1000, 1, 1000);
+    prepare_tac(&unknown_1000, 1000, 14, 1013);
+    prepare_tac(&repeated_1000, 1000, 1, 13);
     /* TLVs of type 0x0600 with U = 1 and no value. */
-    next = thousand_tlvs.octets;
+    uint8_t *next = thousand_tlvs.octets;
     for (unsigned i = 0; i < 1000; i++, next += 4)
         memcpy(next, (const uint8_t[]){0x86, 0, 0, 0}, 4);
     thousand_tlvs.length = (size_t)(next - thousand_tlvs.octets);
@@ -97,21 +112,37 @@ struct row {
 static const struct row rows[] = {
     {"read-frr", "read, FRR's parameters (15 octets)", 10000, ready, &frr, {.call = READ}},
     {"read-six", "read, six capability TLVs", 10000, ready, &six, {.call = READ}},
-    {"read-elements", "read, TAC of 1,000 elements", 10000, ready, &thousand_elements,
+    {"read-elements", "read, TAC of 1,000 elements", 10000, ready, &elements_1000,
      {.call = READ}},
     {"read-tlvs", "read, 1,000 empty unknown TLVs", 500, ready, &thousand_tlvs, {.call = READ}},
     {"init-frr", "Initialization, FRR's parameters (15 octets)", 10000, ready, &frr,
      {.call = INITIALIZATION}},
     {"init-six", "Initialization, six capability TLVs", 10000, ready, &six,
      {.call = INITIALIZATION}},
-    {"init-elements", "Initialization, TAC of 1,000 elements", 50, ready, &thousand_elements,
+    {"init-250", "Initialization, TAC of 250 elements", 500, ready, &elements_250,
+     {.call = INITIALIZATION}},
+    {"init-500", "Initialization, TAC of 500 elements", 500, ready, &elements_500,
+     {.call = INITIALIZATION}},
+    {"init-1000", "Initialization, TAC of 1,000 elements", 500, ready, &elements_1000,
+     {.call = INITIALIZATION}},
+    {"init-unknown", "Initialization, TAC of 1,000 unknown TA-Ids, none twice", 500, ready, &unknown_1000,
+     {.call = INITIALIZATION}},
+    {"init-repeated", "Initialization, TAC of 1,000 elements of the 13 known, repeated", 500, ready, &repeated_1000,
      {.call = INITIALIZATION}},
     {"init-tlvs", "Initialization, 1,000 empty unknown TLVs", 500, ready, &thousand_tlvs,
      {.call = INITIALIZATION}},
     {"cap-frr", "Capability, FRR's parameters (15 octets)", 10000, opened, &frr,
      {.call = CAPABILITY}},
     {"cap-six", "Capability, six capability TLVs", 10000, opened, &six, {.call = CAPABILITY}},
-    {"cap-elements", "Capability, TAC of 1,000 elements", 50, opened, &thousand_elements,
+    {"cap-250", "Capability, TAC of 250 elements", 500, opened, &elements_250,
+     {.call = CAPABILITY}},
+    {"cap-500", "Capability, TAC of 500 elements", 500, opened, &elements_500,
+     {.call = CAPABILITY}},
+    {"cap-1000", "Capability, TAC of 1,000 elements", 500, opened, &elements_1000,
+     {.call = CAPABILITY}},
+    {"cap-unknown", "Capability, TAC of 1,000 unknown TA-Ids, none twice", 500, opened, &unknown_1000,
+     {.call = CAPABILITY}},
+    {"cap-repeated", "Capability, TAC of 1,000 elements of the 13 known, repeated", 500, opened, &repeated_1000,
      {.call = CAPABILITY}},
     {"cap-tlvs", "Capability, 1,000 empty unknown TLVs", 500, opened, &thousand_tlvs,
      {.call = CAPABILITY}},

@@ -65,6 +65,9 @@ pub fn tac_list(value: &[u8], opening: bool, listed: u16) -> u16
     let mut met: u16 = 0;
     for i in 0..n {
         let id = id_at(value, i);
+        if !TaId(id as u32).is_known() {
+            continue;
+        }
         set = tac_element(met, set, id, adds(value, opening, i));
         met = tac_element(met, met, id, true);
     }

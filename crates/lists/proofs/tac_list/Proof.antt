@@ -2,13 +2,14 @@
 -- Assumes nothing.
 use borrow.Author.Needs.{needs}
 use native.Mathlib.Omega.{arith}
-use mathlib.Core.Path.{_≡_, _∙_}
+use mathlib.Core.Path.{_≡_, _∙_, sym}
 use mathlib.Core.Bool.{true}
 use denote.Ref.{now}
+use borrow.Author.Tests.{not-true, not-false}
 use Prim.Native.Nat.{_≤_, _-_}
 use Rattle.lists.specs.Tac.{elementCount, after, tacList}
 use Rattle.lists.specs.Met.{met}
-use Rattle.lists.proofs.Turn.{turn}
+use Rattle.lists.proofs.Turn.{skips, applies}
 use Rattle.lists.proofs.tac_list.Statement.{statement}
 use Rattle.lists.proofs.tac_list.Tie as tie
 
@@ -24,11 +25,19 @@ loop-holds c = search needs
 
 loop-again : tie.Need-loop-again Inv-loop μ-loop
 loop-again c =
-    let inv = c .before .before .before .before .before .loop .inv in
-    let id = c .before .before .before .id-at .ensures in (
+    let inv = c .before .before .before .before .loop .inv in
+    let id = c .before .before .id-at .ensures in
+    let unknown = sym (c .before .is-known .ensures) ∙ not-true _ (c .if1 .taken) in
+    (omega arith, inv .1 ∙ skips _ _ id _ _ unknown, inv .2 ∙ skips _ _ id _ _ unknown)
+
+loop-again-2 : tie.Need-loop-again-2 Inv-loop μ-loop
+loop-again-2 c =
+    let inv = c .before .before .before .before .before .before .before .loop .inv in
+    let id = c .before .before .before .before .before .id-at .ensures in
+    let known = sym (c .before .before .before .before .is-known .ensures) ∙ not-false _ (c .before .before .before .if1 .left) in (
       omega arith,
-      c .before .tac-element .ensures ∙ rw (inv .1, inv .2, id, c .before .before .adds .ensures) (turn _ _ _ _),
-      c .tac-element2 .ensures ∙ rw (inv .2, id) (turn _ true 0 _),
+      c .before .tac-element .ensures ∙ rw (inv .1, inv .2, c .before .before .adds .ensures) (applies _ _ id _ _ known),
+      c .tac-element2 .ensures ∙ rw (inv .2) (applies _ _ id true 0 known),
     )
 
 returns : tie.Need-returns Inv-loop μ-loop
@@ -42,5 +51,6 @@ tac-list-spec =
     tie.close
     (tie.spec
     Inv-loop μ-loop (λ c κs. search needs) loop-holds
-    (λ c κs. omega arith) (λ c κs. omega arith) (λ c κs. search needs) (λ c κs. search needs) (λ c. omega arith) (λ c. omega arith) loop-again
+    (λ c κs. omega arith) (λ c. search needs) (λ c κs. search needs) (λ c. omega arith) (λ c. omega arith) loop-again
+    (λ c κs. omega arith) (λ c κs. search needs) (λ c κs. search needs) (λ c. omega arith) (λ c. omega arith) loop-again-2
     returns)
