@@ -1,5 +1,6 @@
 -- Of the elements of a TAC with equal identifiers the first decides, whatever its E; an application that no element names stays as it was; in an
--- opening from the empty list exactly the known identifiers present are listed; and no bits come beyond the thirteen applications.
+-- opening from the empty list exactly the known identifiers present are listed, which are those that a reader has met; and no bits come beyond
+-- the thirteen applications.
 -- By induction over the elements: only the first with an identifier can touch it. Assumes nothing.
 use Prim.Native.Nat.{ℕ, zero, suc, _-_, _^_, _<_, _≤_}
 use native.Mathlib.Omega.{arith}
@@ -8,6 +9,7 @@ use mathlib.Core.Path.{_≡_, _∙_, sym, ap, refl}
 use mathlib.Core.List.{List}
 use mathlib.Core.Bool.{Bool, true, false, _||_}
 use lib.Dec.{eqb}
+use lib.Pow.{pow-pos}
 use borrow.Author.Tests.{eq-eqb, ne-eqb, eqb-false}
 use Rattle.choice.proofs.Branch.{by-test, taken, left}
 use Rattle.sets.specs.Set.{has, switched}
@@ -15,7 +17,7 @@ use Rattle.sets.proofs.Members.{has-none}
 use Rattle.sets.proofs.Switches.{switched-same, switched-other, switched-lt}
 use Rattle.kinds.specs.Kinds.{applicationCount}
 use Rattle.lists.specs.Tac.{elementCount, idAt, adds, stood, after, tacList, First, FirstDecides, AbsentStays, ListedIsPresent, UnknownIsSkipped}
-use Rattle.lists.specs.Met.{MetIsStood, UnknownIsNotMet}
+use Rattle.lists.specs.Met.{MetIsStood, UnknownIsNotMet, MetFits}
 
 -- an element below i has the identifier
 stood-found : (v : List ℕ) (n j i : ℕ) → j < i → idAt v j ≡ n → stood v n i ≡ true
@@ -77,7 +79,7 @@ pub absent-stays : AbsentStays
 unfolding tacList inSet
 absent-stays v opening s n least most = none-among v opening s n least most (elementCount v)
 
--- ---- in an opening from the empty list: the known identifiers that stood
+-- ---- what was met: an opening lists exactly the known identifiers that stood
 pub met-is-stood : MetIsStood
 unfolding after stood inSet
 met-is-stood v n least most zero = has-none (n - 1)
@@ -112,3 +114,6 @@ after-lt v opening s h (suc i) =
 pub tac-list-lt : (v : List ℕ) (opening : Bool) (s : ℕ) → s < 2 ^ applicationCount → tacList v opening s < 2 ^ applicationCount
 unfolding tacList
 tac-list-lt v opening s h = after-lt v opening s h (elementCount v)
+
+pub met-fits : MetFits
+met-fits v = after-lt v true 0 (pow-pos applicationCount)

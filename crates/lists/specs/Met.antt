@@ -1,4 +1,4 @@
--- Lists: which identifiers a TAC's reader has met, remembered as a set of the applications. Assumes nothing.
+-- Lists: the identifiers that the reader of a TAC has met, remembered as a set of applications. Assumes nothing.
 use Prim.Native.Nat.{ℕ, suc, _-_, _^_, _<_, _≤_}
 use mathlib.Core.Path.{_≡_}
 use mathlib.Core.List.{List}
@@ -8,7 +8,7 @@ use Rattle.sets.specs.Set.{has, switched}
 use Rattle.kinds.specs.Kinds.{applicationCount, knownApplication, isIn}
 use Rattle.lists.specs.Tac.{idAt, stood, after}
 
--- the known identifiers among the first i elements: what an opening lists
+-- the known identifiers among the first i elements: just what an opening lists
 abbrev pub met : List ℕ → ℕ → ℕ
 met v i = after v true 0 i
 
@@ -16,7 +16,7 @@ met v i = after v true 0 i
 unfoldable pub tacElement : ℕ → ℕ → ℕ → Bool → ℕ
 tacElement m s n on = pick (isIn m n) s (switched applicationCount s n on)
 
--- ---- what is remembered
+-- ---- what is remembered, for each application n of the thirteen
 -- a known identifier was met exactly when it stood earlier
 abbrev pub MetIsStood : Type 0
 MetIsStood = (v : List ℕ) (n : ℕ) → 1 ≤ n → n ≤ applicationCount → (i : ℕ) → has (met v i) (n - 1) ≡ stood v n i
@@ -24,3 +24,7 @@ MetIsStood = (v : List ℕ) (n : ℕ) → 1 ≤ n → n ≤ applicationCount →
 -- an unknown one is not remembered, whatever its low bits
 abbrev pub UnknownIsNotMet : Type 0
 UnknownIsNotMet = (v : List ℕ) (i : ℕ) → knownApplication (idAt v i) ≡ false → met v (suc i) ≡ met v i
+
+-- and there is no bit for more than the thirteen
+abbrev pub MetFits : Type 0
+MetFits = (v : List ℕ) (i : ℕ) → met v i < 2 ^ applicationCount
