@@ -24,8 +24,9 @@ module _ (v : List ℕ) (i : ℕ) where
     pub skips : knownApplication n ≡ false → after v opening s i ≡ after v opening s (i + 1)
     skips h = rw add-one (sym (unknown-is-skipped v opening s i (rw e at h)))
 
-    pub applies : knownApplication n ≡ true → tacElement (met v i) (after v opening s i) n (adds v opening i) ≡ after v opening s (i + 1)
+    pub applies : knownApplication n ≡ true → {m t : ℕ} {on : Bool} → m ≡ met v i → t ≡ after v opening s i → on ≡ (adds v opening i)
+        → tacElement m t n on ≡ after v opening s (i + 1)
     unfolding tacElement after
-    applies h =
-        rw (e, add-one)
+    applies h p q r =
+        rw (p, q, r, e, add-one)
         (ap (λ (b : Bool). pick b (after v opening s i) (switched applicationCount (after v opening s i) (idAt v i) (adds v opening i))) (in-met (rw e at h)))

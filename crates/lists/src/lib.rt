@@ -47,13 +47,13 @@ fn adds(value: &[u8], opening: bool, i: usize) -> bool
 }
 
 // The set after one element of a TAC: one whose identifier was met before it counts for nothing.
-fn tac_element(met: u16, set: u16, id: u16, adds: bool) -> u16
-    ensures { λ r. ⌜ r ≡ tacElement met set id adds ⌝ }
+fn tac_element(met: u16, set: u16, id: u16, on: bool) -> u16
+    ensures { λ r. ⌜ r ≡ tacElement met set id on ⌝ }
 {
     if TaId(id as u32).is_in(met) {
         return set;
     }
-    TaId(id as u32).switched(set, adds)
+    TaId(id as u32).switched(set, on)
 }
 
 // The set of applications after a TAC's elements. The known identifiers met are remembered: of equal ones the first decides.
@@ -68,7 +68,8 @@ pub fn tac_list(value: &[u8], opening: bool, listed: u16) -> u16
         if !TaId(id as u32).is_known() {
             continue;
         }
-        set = tac_element(met, set, id, adds(value, opening, i));
+        let on = adds(value, opening, i);
+        set = tac_element(met, set, id, on);
         met = tac_element(met, met, id, true);
     }
     set

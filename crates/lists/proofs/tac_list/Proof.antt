@@ -2,7 +2,7 @@
 -- Assumes nothing.
 use borrow.Author.Needs.{needs}
 use native.Mathlib.Omega.{arith}
-use mathlib.Core.Path.{_≡_, _∙_, sym}
+use mathlib.Core.Path.{_≡_, _∙_, sym, refl}
 use mathlib.Core.Bool.{true}
 use denote.Ref.{now}
 use borrow.Author.Tests.{not-true, not-false}
@@ -36,8 +36,8 @@ loop-again-2 c =
     let id = c .before .before .before .before .before .id-at .ensures in
     let known = sym (c .before .before .before .before .is-known .ensures) ∙ not-false _ (c .before .before .before .if1 .left) in (
       omega arith,
-      c .before .tac-element .ensures ∙ rw (inv .1, inv .2, c .before .before .adds .ensures) (applies _ _ id _ _ known),
-      c .tac-element2 .ensures ∙ rw (inv .2) (applies _ _ id true 0 known),
+      c .before .tac-element .ensures ∙ applies _ _ id _ _ known (inv .2) (inv .1) (c .before .before .adds .ensures),
+      c .tac-element2 .ensures ∙ applies _ _ id true 0 known (inv .2) (inv .2) refl,
     )
 
 returns : tie.Need-returns Inv-loop μ-loop
