@@ -27,6 +27,7 @@ help:
 	@echo "make compare    the library against the second implementation; CALLS=$(CALLS) SEED=$(SEED)"
 	@echo "make mutants    break the second implementation rule by rule; each must be noticed; MUTANTS=names for some"
 	@echo "make coverage   how much of the library's code such a comparison runs, by function (*)"
+	@echo "make stack      how much stack each call takes, by its deepest path"
 	@echo "make second     the second implementation's own tests"
 	@echo "make documents  do the documents name what is there, and does promises::kept hold what they cite"
 	@echo "make fuzz       the two on inputs that a fuzzer makes; SECONDS=$(SECONDS) (*)"

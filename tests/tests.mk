@@ -4,11 +4,15 @@
 TACIT_LIB_DIR ?= build
 SECONDS       ?= 60
 
-.PHONY: coverage fuzz outside bench
+.PHONY: coverage stack fuzz outside bench
 
 # How much of the library's code a comparison runs, by function.
 coverage: $(TACIT_LIB_DIR)/libtacit.a
 	@TACIT_LIB_DIR="$(abspath $(TACIT_LIB_DIR))" tests/coverage/run --calls $(CALLS) --seed $(SEED)
+
+# How much stack each call takes, by its deepest path.
+stack: $(TACIT_LIB_DIR)/libtacit.a
+	@tests/c/stack "$(TACIT_LIB_DIR)/libtacit.a"
 
 # The library against the second program, on inputs that libFuzzer makes.
 fuzz: $(TACIT_LIB_DIR)/libtacit.a
