@@ -176,7 +176,7 @@ static void areas(void)
     }
 }
 
-/* As many elements as fit, the one that counts being the last. */
+/* As many elements as fit, the one that counts being the last, or the first. */
 static void full_areas(void)
 {
     uint8_t area[4096] = {0x85, 0x0F, 0x0F, 0xF9, 0x80};
@@ -189,6 +189,14 @@ static void full_areas(void)
     CHECK(reading.refusal == 0 && reading.tac.start == 4 && reading.tac.length == 0x0FF9);
     struct record record = fresh(APP(7));
     CHECK(initialization(&record, area, length).outcome == TACIT_DONE);
+    CHECK(kinds(&record) == TACIT_KIND_SET(8));
+
+    /* The first names 4 with E = 0, and all that follow name 7, or 4 again, with E = 1. */
+    for (size_t at = 5; at < length; at += 4)
+        memcpy(area + at, (const uint8_t[]){0, at % 8 == 1 ? 7 : 4, at == 5 ? 0 : 0x80, 0}, 4);
+    CHECK(area[6] == 4 && area[10] == 7 && area[14] == 4);
+    record = opened(APP(4) | APP(7), "850F0005 80 00048000");
+    CHECK(capability(&record, area, length).outcome == TACIT_DONE);
     CHECK(kinds(&record) == TACIT_KIND_SET(8));
 
     uint8_t sac[4096] = {0x85, 0x0D, 0x0F, 0xFC, 0x80};

@@ -214,6 +214,8 @@ fn ta_id(numbers: &mut Numbers, hint: u16, earlier: &[u16]) -> u16 {
                 17,
                 0x00FF,
                 0xFFFF,
+                known | 0x0010,
+                known | random << 4,
                 known | 0x0100,
                 known << 8,
                 known | 0x8000,
