@@ -4,7 +4,7 @@
  *   bench rows                  the rows: their names and how often to call
  *   bench check                 both give the same on every row
  *   bench count WHO ROW CALLS   makes the calls, for someone else to count
- *   bench time WHO ROW          nanoseconds for one call
+ *   bench time ROW              nanoseconds for one call, of each WHO
  *
  * WHO is tacit, second or nothing: calls with the same parameters that do
  * nothing, for what the loop itself takes. Before each call the record is put
@@ -125,9 +125,9 @@ static const struct row rows[] = {
      {.call = INITIALIZATION}},
     {"init-1000", "Initialization, TAC of 1,000 elements", 500, ready, &elements_1000,
      {.call = INITIALIZATION}},
-    {"init-unknown", "Initialization, TAC of 1,000 unknown TA-Ids, none twice", 500, ready, &unknown_1000,
+    {"init-unknown", "Initialization, TAC of 1,000 unknown TA-Ids", 500, ready, &unknown_1000,
      {.call = INITIALIZATION}},
-    {"init-repeated", "Initialization, TAC of 1,000 elements of the 13 known, repeated", 500, ready, &repeated_1000,
+    {"init-repeated", "Initialization, TAC of 1,000 known TA-Ids, repeated", 500, ready, &repeated_1000,
      {.call = INITIALIZATION}},
     {"init-tlvs", "Initialization, 1,000 empty unknown TLVs", 500, ready, &thousand_tlvs,
      {.call = INITIALIZATION}},
@@ -140,9 +140,9 @@ static const struct row rows[] = {
      {.call = CAPABILITY}},
     {"cap-1000", "Capability, TAC of 1,000 elements", 500, opened, &elements_1000,
      {.call = CAPABILITY}},
-    {"cap-unknown", "Capability, TAC of 1,000 unknown TA-Ids, none twice", 500, opened, &unknown_1000,
+    {"cap-unknown", "Capability, TAC of 1,000 unknown TA-Ids", 500, opened, &unknown_1000,
      {.call = CAPABILITY}},
-    {"cap-repeated", "Capability, TAC of 1,000 elements of the 13 known, repeated", 500, opened, &repeated_1000,
+    {"cap-repeated", "Capability, TAC of 1,000 known TA-Ids, repeated", 500, opened, &repeated_1000,
      {.call = CAPABILITY}},
     {"cap-tlvs", "Capability, 1,000 empty unknown TLVs", 500, opened, &thousand_tlvs,
      {.call = CAPABILITY}},
@@ -232,24 +232,42 @@ static double now(void)
     return (double)time.tv_sec * 1e9 + (double)time.tv_nsec;
 }
 
-/* The shortest of many runs, each of some milliseconds. */
-static double nanoseconds(const struct calls *calls, const struct row *row)
+/* For each of the three the shortest of many short runs, which take turns. */
+static void print_times(const struct row *row)
 {
-    double best = 0;
-    for (int i = 0; i < 60; i++) {
-        double start = now();
-        run(calls, row, row->times * 2);
-        double each = (now() - start) / (double)(row->times * 2);
-        if (i == 0 || each < best)
-            best = each;
-    }
-    return best;
+    enum { WHO = 3, RUNS = 1000 };
+    const struct calls *const who[WHO] = {&nothing, &tacit, &second};
+    const unsigned long times = row->times / 5;
+    double best[WHO] = {0};
+    for (int i = 0; i < RUNS; i++)
+        for (int w = 0; w < WHO; w++) {
+            double start = now();
+            run(who[w], row, times);
+            double each = (now() - start) / (double)times;
+            if (i == 0 || each < best[w])
+                best[w] = each;
+        }
+    printf("%.2f %.2f %.2f\n", best[0], best[1], best[2]);
+}
+
+static const struct row *row_named(const char *name)
+{
+    for (int i = 0; i < ROWS; i++)
+        if (strcmp(name, rows[i].name) == 0)
+            return &rows[i];
+    return NULL;
+}
+
+static const struct calls *calls_of(const char *who)
+{
+    return strcmp(who, "tacit") == 0     ? &tacit
+           : strcmp(who, "second") == 0  ? &second
+           : strcmp(who, "nothing") == 0 ? &nothing
+                                         : NULL;
 }
 
 int main(int count, char **words)
 {
-    const struct calls *calls = NULL;
-    const struct row *row = NULL;
     prepare_all();
     if (count == 2 && strcmp(words[1], "rows") == 0) {
         for (int i = 0; i < ROWS; i++)
@@ -258,25 +276,14 @@ int main(int count, char **words)
     }
     if (count == 2 && strcmp(words[1], "check") == 0)
         return check();
-    if (count >= 4) {
-        if (strcmp(words[2], "tacit") == 0)
-            calls = &tacit;
-        else if (strcmp(words[2], "second") == 0)
-            calls = &second;
-        else if (strcmp(words[2], "nothing") == 0)
-            calls = &nothing;
-        for (int i = 0; i < ROWS; i++)
-            if (strcmp(words[3], rows[i].name) == 0)
-                row = &rows[i];
-    }
-    if (calls != NULL && row != NULL && count == 5 && strcmp(words[1], "count") == 0) {
-        run(calls, row, strtoul(words[4], NULL, 10));
+    if (count == 5 && strcmp(words[1], "count") == 0 && calls_of(words[2]) && row_named(words[3])) {
+        run(calls_of(words[2]), row_named(words[3]), strtoul(words[4], NULL, 10));
         return 0;
     }
-    if (calls != NULL && row != NULL && count == 4 && strcmp(words[1], "time") == 0) {
-        printf("%.2f\n", nanoseconds(calls, row));
+    if (count == 3 && strcmp(words[1], "time") == 0 && row_named(words[2])) {
+        print_times(row_named(words[2]));
         return 0;
     }
-    fprintf(stderr, "usage: bench rows | check | count WHO ROW CALLS | time WHO ROW\n");
+    fprintf(stderr, "usage: bench rows | check | count WHO ROW CALLS | time ROW\n");
     return 2;
 }

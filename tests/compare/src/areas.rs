@@ -75,8 +75,8 @@ fn good_tlvs(numbers: &mut Numbers, hint: u16) -> Vec<Tlv> {
     for _ in 0..numbers.weighted(&[60, 25, 10, 5]) {
         tlvs.push(passed_over(numbers));
     }
-    // One list may be as long as the area lets it; long TACs take time to read.
-    let long = numbers.weighted(&[970, 6, 24]);
+    // One list may be as long as the area lets it.
+    let long = numbers.weighted(&[970, 15, 15]);
     if long != 1 && numbers.chance(75) {
         let count = tac_count(numbers);
         push_tac(numbers, hint, count, &mut tlvs);
