@@ -39,6 +39,8 @@
  * - An event that is "for" certain states is refused with 7 in the others.
  * - Numbers are 32 bits wide, so that a wrong one is refused and not cut down
  *   to a right one on its way in.
+ * - It allocates nothing. The stack that it takes is a few hundred octets,
+ *   whatever it is handed: docs/TRUST.md has how many.
  *
  * What the library cannot check, and you must see to
  *
