@@ -76,7 +76,7 @@ fn good_tlvs(numbers: &mut Numbers, hint: u16) -> Vec<Tlv> {
         tlvs.push(passed_over(numbers));
     }
     // One list may be as long as the area lets it.
-    let long = numbers.weighted(&[970, 15, 15]);
+    let long = numbers.weighted(&[950, 25, 25]);
     if long != 1 && numbers.chance(75) {
         let count = tac_count(numbers);
         push_tac(numbers, hint, count, &mut tlvs);

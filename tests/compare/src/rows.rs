@@ -119,7 +119,7 @@ pub fn length(numbers: &mut Numbers) -> usize {
 pub fn any(numbers: &mut Numbers, few: u16) -> Vec<Fields> {
     let sort = numbers.weighted(&[68, 12, 20]);
     let length = if sort == 2 && numbers.flag() {
-        LONGEST
+        numbers.one_of(&[LONGEST - 1, LONGEST])
     } else {
         any_length(numbers)
     };
