@@ -16,8 +16,8 @@ met v i = after v true 0 i
 unfoldable pub tacElement : ℕ → ℕ → ℕ → Bool → ℕ
 tacElement m s n on = pick (isIn m n) s (switched applicationCount s n on)
 
--- ---- what is remembered, for each application n of the thirteen
--- a known identifier was met exactly when it stood earlier
+-- ---- what is remembered
+-- a known identifier n was met exactly when it stood earlier
 abbrev pub MetIsStood : Type 0
 MetIsStood = (v : List ℕ) (n : ℕ) → 1 ≤ n → n ≤ applicationCount → (i : ℕ) → has (met v i) (n - 1) ≡ stood v n i
 

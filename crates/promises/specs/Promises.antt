@@ -2,6 +2,7 @@
 use Rattle.area.specs.Parts.{PartsInside, NothingAfterRefusal}
 use Rattle.area.specs.Tlvs.{ReadByTlvs}
 use Rattle.lists.specs.Tac.{FirstDecides, AbsentStays, ListedIsPresent, UnknownIsSkipped}
+use Rattle.lists.specs.Met.{MetIsStood, UnknownIsNotMet, MetFits}
 use Rattle.lists.specs.Sac.{LaterHolds, IdleStays}
 use Rattle.session.specs.Session.{SoundMeans, PermittedMeans}
 use Rattle.record.specs.Record.{ReadBack, StoredBack}
@@ -29,6 +30,9 @@ pub record Promises : Type 0 where
   pub absent-stays : AbsentStays
   pub listed-is-present : ListedIsPresent
   pub unknown-is-skipped : UnknownIsSkipped
+  pub met-is-stood : MetIsStood
+  pub unknown-is-not-met : UnknownIsNotMet
+  pub met-fits : MetFits
   pub later-holds : LaterHolds
   pub idle-stays : IdleStays
   -- sessions and their events

@@ -1,7 +1,7 @@
 -- `promises::kept` meets its contract: each promise by its theorem. Assumes nothing.
 use Rattle.area.proofs.Parts.{parts-inside, nothing-after-refusal}
 use Rattle.area.proofs.Tlvs.{read-by-tlvs}
-use Rattle.lists.proofs.First.{first-decides, absent-stays, listed-is-present, unknown-is-skipped}
+use Rattle.lists.proofs.First.{first-decides, absent-stays, listed-is-present, unknown-is-skipped, met-is-stood, unknown-is-not-met, met-fits}
 use Rattle.lists.proofs.Later.{later-holds, idle-stays}
 use Rattle.session.proofs.SoundMeans as sound
 use Rattle.session.proofs.PermittedMeans as permits
@@ -33,6 +33,9 @@ returns c =
       absent-stays = absent-stays;
       listed-is-present = listed-is-present;
       unknown-is-skipped = unknown-is-skipped;
+      met-is-stood = met-is-stood;
+      unknown-is-not-met = unknown-is-not-met;
+      met-fits = met-fits;
       later-holds = later-holds;
       idle-stays = idle-stays;
       sound-means = sound.both-ways;
