@@ -1,5 +1,6 @@
 -- Two tests that hold together hold each, and the other way round; one that holds is enough for either. By cases on the first. Assumes nothing.
 use mathlib.Core.Path.{_≡_, refl, sym}
+use mathlib.Core.Logic.{_⊎_, inl, inr}
 use mathlib.Core.Bool.{Bool, true, false, not, _&&_, _||_, false≢true}
 use Rattle.choice.specs.Pick.{only, unless}
 
@@ -24,6 +25,10 @@ pub or-second : (x y : Bool) → y ≡ true → (x || y) ≡ true
 or-second true y h = refl
 or-second false y h = h
 
+pub or-either : (x y : Bool) → (x || y) ≡ true → (x ≡ true) ⊎ (y ≡ true)
+or-either true y h = inl refl
+or-either false y h = inr h
+
 pub not-false : (x : Bool) → not x ≡ true → x ≡ false
 not-false true h = absurd (false≢true h)
 not-false false h = refl
@@ -45,3 +50,9 @@ unless-gives false y h e = h
 pub unless-holds : (x y : Bool) → (x ≡ false → y ≡ true) → unless x y ≡ true
 unless-holds true y f = refl
 unless-holds false y f = f refl
+
+-- two tests, each of which holds where the other does, are one
+pub same-test : (x y : Bool) → (x ≡ true → y ≡ true) → (y ≡ true → x ≡ true) → x ≡ y
+same-test true y f g = sym (f refl)
+same-test false true f g = g refl
+same-test false false f g = refl

@@ -1,2 +1,4 @@
 pub mod Table
+pub mod Turned
 pub mod Gathered
+pub mod ByKind

@@ -1,8 +1,9 @@
 // Applications and kinds: the kinds that targeted applications open, and those that SAC Apps control.
 ghost use mathlib.Core.Path.{_≡_};
-ghost use Prim.Native.Nat.{_<_};
-ghost use Rattle.sets.specs.Set.{switched};
-ghost use Rattle.kinds.specs.Kinds.{applicationCount, appCount, knownApplication, isIn, opens, controlled, member, opened, disables};
+ghost use lib.ListN.{getD};
+ghost use Rattle.sets.specs.Set.{has, switched};
+ghost use Rattle.kinds.specs.Kinds.{applicationCount, appCount, knownApplication, isIn, opened, disables};
+ghost use Rattle.kinds.specs.ByKind.{openers, kindsBy};
 
 // A targeted application by its number, as TAC has it.
 pub struct TaId(pub u32);
@@ -15,39 +16,45 @@ pub const KIND_COUNT: u32 = 10;
 
 pub const ALL_KINDS: u16 = (1 << KIND_COUNT) - 1;
 
-// The kinds that applications open and Apps control, as sets.
-const IPV4_PREFIX: u16 = 1 << 0;
+// A set of applications or Apps for each kind, from kind 0 on. A number n stands at bit n - 1.
+const KINDS: usize = KIND_COUNT as usize;
 
-const IPV6_PREFIX: u16 = 1 << 1;
+// 1 LDPv4 Tunneling, 4 LDPv4 Remote LFA, 12 IPv4 intra-area FECs.
+const OPEN_IPV4_PREFIX: u16 = (1 << 0) + (1 << 3) + (1 << 11);
 
-// P2MP, MP2MP and HSMP, kinds 2 to 6.
-const MLDP: u16 = (1 << 7) - (1 << 2);
+// 2 LDPv6 Tunneling, 5 LDPv6 Remote LFA, 13 IPv6 intra-area FECs.
+const OPEN_IPV6_PREFIX: u16 = (1 << 1) + (1 << 4) + (1 << 12);
 
-const PWID: u16 = 1 << 7;
+// 3 mLDP Tunneling, 11 mLDP Node Protection.
+const OPEN_MLDP: u16 = (1 << 2) + (1 << 10);
 
-const GENERALIZED_PWID: u16 = 1 << 8;
-
-const P2MP_PW_UPSTREAM: u16 = 1 << 9;
-
-// The kinds that each targeted application opens, from TA-Id 1 on.
-const OPENS: [u16; TaId::COUNT as usize] = [
-    IPV4_PREFIX, // 1 LDPv4 Tunneling
-    IPV6_PREFIX, // 2 LDPv6 Tunneling
-    MLDP, // 3 mLDP Tunneling
-    IPV4_PREFIX, // 4 LDPv4 Remote LFA
-    IPV6_PREFIX, // 5 LDPv6 Remote LFA
-    PWID, // 6 FEC 128 PW
-    GENERALIZED_PWID, // 7 FEC 129 PW
-    0, // 8 Session Protection: the session's own
-    0, // 9 ICCP
-    P2MP_PW_UPSTREAM, // 10 P2MP PW
-    MLDP, // 11 mLDP Node Protection
-    IPV4_PREFIX, // 12 IPv4 intra-area FECs
-    IPV6_PREFIX, // 13 IPv6 intra-area FECs
+// The applications that open each kind in every session. 8 Session Protection opens the session's own, and 9 ICCP none.
+const OPENERS: [u16; KINDS] = [
+    OPEN_IPV4_PREFIX, // 0 IPv4 prefix
+    OPEN_IPV6_PREFIX, // 1 IPv6 prefix
+    OPEN_MLDP, // 2 P2MP
+    OPEN_MLDP, // 3 MP2MP-up
+    OPEN_MLDP, // 4 MP2MP-down
+    OPEN_MLDP, // 5 HSMP-downstream
+    OPEN_MLDP, // 6 HSMP-upstream
+    1 << 5, // 7 PWid: 6 FEC 128 PW
+    1 << 6, // 8 Generalized PWid: 7 FEC 129 PW
+    1 << 9, // 9 P2MP PW Upstream: 10 P2MP PW
 ];
 
-// The kind that each SAC application controls, from App 1 on.
-const CONTROLS: [u16; SacApp::COUNT as usize] = [IPV4_PREFIX, IPV6_PREFIX, PWID, GENERALIZED_PWID];
+// The SAC application that controls each kind.
+const CONTROLLERS: [u16; KINDS] = [
+    1 << 0, // 0 IPv4 prefix
+    1 << 1, // 1 IPv6 prefix
+    0,
+    0,
+    0,
+    0,
+    0,
+    1 << 2, // 7 PWid
+    1 << 3, // 8 Generalized PWid
+    0,
+];
 
 impl TaId {
     pub const COUNT: u32 = 13;
@@ -55,7 +62,10 @@ impl TaId {
     // The set of all of them, TA-Id n at bit n - 1.
     pub const ALL: u16 = (1 << Self::COUNT) - 1;
 
-    const SESSION_PROTECTION: u32 = 8;
+    // Session Protection's place in a set.
+    const SESSION_PROTECTION_BIT: u16 = 8 - 1;
+
+    const SESSION_PROTECTION: u16 = 1 << Self::SESSION_PROTECTION_BIT;
 
     pub fn is_known(self) -> bool
         ensures { λ r. ⌜ r ≡ knownApplication (self .0) ⌝ }
@@ -80,21 +90,6 @@ impl TaId {
     {
         sets::switched(Self::COUNT, applications, self.0, on)
     }
-
-    // The kinds that the application opens; an unknown one opens none.
-    fn opens(self, protects: u16) -> u16
-        ensures { λ r. ⌜ r ≡ opens protects (self .0) ⌝ }
-    {
-        let n = self.0;
-        if self.is_known() {
-            if n == Self::SESSION_PROTECTION {
-                return protects;
-            }
-            let i = (n - 1) as usize;
-            return OPENS[i];
-        }
-        0
-    }
 }
 
 impl SacApp {
@@ -108,46 +103,68 @@ impl SacApp {
     }
 }
 
-// The kinds that application i + 1 opens, where it is in the set; else none.
-fn opened_at(applications: u16, i: u32, protects: u16) -> u16
-    requires { ⌜ i < applicationCount ⌝ }
-    ensures { λ r. ⌜ r ≡ member (opens protects) applications i ⌝ }
+// The set of a kind in a table; of a kind over 9, the empty one.
+fn at(table: [u16; KINDS], kind: u16) -> u16
+    ensures { λ r. ⌜ r ≡ getD table kind 0 ⌝ }
 {
-    if sets::has(applications, i as u16) {
-        return TaId(i + 1).opens(protects);
+    let i = kind as usize;
+    if i < KINDS {
+        return table[i];
     }
     0
+}
+
+// The kinds that these members stand for by a table: those whose set they meet.
+fn kinds_by(table: [u16; KINDS], members: u16) -> u16
+    ensures { λ r. ⌜ r ≡ kindsBy table members ⌝ }
+{
+    let mut kinds: u16 = 0;
+    for i in 0..KIND_COUNT {
+        let on = sets::meets(members, at(table, i as u16));
+        kinds = sets::switched(KIND_COUNT, kinds, i + 1, on);
+    }
+    kinds
+}
+
+// The applications that open a kind, in a session with these protected kinds.
+fn openers(kind: u16, protects: u16) -> u16
+    ensures { λ r. ⌜ r ≡ openers protects kind ⌝ }
+{
+    let always = at(OPENERS, kind);
+    if sets::has(protects, kind) {
+        return sets::union(always, TaId::SESSION_PROTECTION);
+    }
+    always
+}
+
+// Whether a set of applications opens this one kind.
+pub fn opens_kind(applications: u16, protects: u16, kind: u16) -> bool
+    ensures { λ r. ⌜ r ≡ has (opened protects applications) kind ⌝ }
+{
+    sets::meets(applications, openers(kind, protects))
 }
 
 // The kinds that a set of applications opens.
 pub fn opened(applications: u16, protects: u16) -> u16
     ensures { λ r. ⌜ r ≡ opened protects applications ⌝ }
 {
-    let mut kinds: u16 = 0;
-    for i in 0..TaId::COUNT {
-        kinds = sets::union(kinds, opened_at(applications, i, protects));
+    let kinds = kinds_by(OPENERS, applications);
+    if sets::has(applications, TaId::SESSION_PROTECTION_BIT) {
+        return sets::union(kinds, protects);
     }
     kinds
 }
 
-// The kinds that App i + 1 controls, where it is in the set; else none.
-fn disabled_at(apps: u16, i: u32) -> u16
-    requires { ⌜ i < appCount ⌝ }
-    ensures { λ r. ⌜ r ≡ member controlled apps i ⌝ }
+// Whether a set of Apps disables this one kind.
+pub fn disables_kind(apps: u8, kind: u16) -> bool
+    ensures { λ r. ⌜ r ≡ has (disables apps) kind ⌝ }
 {
-    if sets::has(apps, i as u16) {
-        return CONTROLS[i as usize];
-    }
-    0
+    sets::meets(apps as u16, at(CONTROLLERS, kind))
 }
 
 // The kinds that a set of Apps disables.
 pub fn disables(apps: u8) -> u16
     ensures { λ r. ⌜ r ≡ disables apps ⌝ }
 {
-    let mut kinds: u16 = 0;
-    for i in 0..SacApp::COUNT {
-        kinds = sets::union(kinds, disabled_at(apps as u16, i));
-    }
-    kinds
+    kinds_by(CONTROLLERS, apps as u16)
 }

@@ -1,16 +1,14 @@
 -- A kind is permitted exactly when the session is Open, SAC has not disabled it and, where negotiation is in force, some application both enabled
 -- and listed maps to it. By the laws of the sets that `permitted` is made of. Assumes nothing.
 use mathlib.Core.Path.{_≡_, refl, sym, ap, _∙_}
-use mathlib.Core.Bool.{Bool, true, false, not, _&&_, true≢false}
+use mathlib.Core.Bool.{Bool, true, false, not, _&&_, and-true, and-false, true≢false}
 use Prim.Native.Nat.{ℕ, _-_, _^_, _<_}
-use native.Mathlib.Omega.{arith}
-use native.Mathlib.Decide.{decLt}
 use lib.Dec.{lit<}
 use Rattle.choice.specs.Pick.{pick}
 use Rattle.choice.proofs.Branch.{taken, left}
 use Rattle.choice.proofs.Tests.{and-first, and-second, and-both, not-false}
 use Rattle.sets.specs.Set.{has}
-use Rattle.sets.proofs.Members.{has-common, has-minus, has-none, has-above, has-all}
+use Rattle.sets.proofs.Members.{has-common, has-minus, has-none, has-lt, has-all}
 use Rattle.kinds.specs.Kinds.{applicationCount, kindCount, allKinds, opens, opened, disables, Some}
 use Rattle.kinds.proofs.Table.{opens-lt}
 use Rattle.kinds.proofs.Gathered.{gather-lt, opened-some, some-opened, disables-some, some-disables}
@@ -19,11 +17,7 @@ use Rattle.session.specs.Session.{isOpen, inForce, negotiated, Sound, pe
 
 -- no other number than a kind's in a set of kinds
 pub kind-of : (a k : ℕ) → a < 2 ^ kindCount → has a k ≡ true → k < kindCount
-kind-of a k h e = go (decLt k kindCount)
-  where
-    go : Dec (k < kindCount) → k < kindCount
-    go (yes l) = omega arith
-    go (no l) = absurd (true≢false (sym e ∙ has-above kindCount a k h (omega arith)))
+kind-of = has-lt kindCount
 
 module _ (s : Session) (k : ℕ) where
   -- an application of the common set is both enabled and listed
@@ -67,12 +61,32 @@ module _ (s : Session) (k : ℕ) where
   unfolding permitted offered
   when-open e = ap (λ (p : ℕ). has p k) (taken _ _ e) ∙ has-minus _ (disables (s .disabled)) k
 
+  -- one kind, as it is asked
+  pub asked-shut : isOpen s ≡ false → has (permitted s) k ≡ false
+  unfolding permitted
+  asked-shut e = ap (λ (p : ℕ). has p k) (left _ _ e) ∙ has-none k
+
+  pub asked-disabled : isOpen s ≡ true → has (disables (s .disabled)) k ≡ true → has (permitted s) k ≡ false
+  asked-disabled e d = when-open e ∙ ap (λ (b : Bool). has offered k && not b) d ∙ and-false (has offered k)
+
+  asked-offered : isOpen s ≡ true → has (disables (s .disabled)) k ≡ false → has (permitted s) k ≡ has offered k
+  asked-offered e d = when-open e ∙ ap (λ (b : Bool). has offered k && not b) d ∙ and-true (has offered k)
+
+  pub asked-in-force : isOpen s ≡ true → has (disables (s .disabled)) k ≡ false → inForce s ≡ true
+      → has (permitted s) k ≡ has (opened (s .protects) (negotiated s)) k
+  unfolding offered
+  asked-in-force e d f = asked-offered e d ∙ ap (λ (o : ℕ). has o k) (taken _ _ f)
+
+  pub asked-unforced : isOpen s ≡ true → has (disables (s .disabled)) k ≡ false → inForce s ≡ false → has (permitted s) k ≡ has allKinds k
+  unfolding offered
+  asked-unforced e d f = asked-offered e d ∙ ap (λ (o : ℕ). has o k) (left _ _ f)
+
   pub permitted-means : Sound s → has (permitted s) k ≡ true → Permitted s k
   unfolding permitted offered
   permitted-means r h = go (isOpen s) refl
     where
       go : (x : Bool) → isOpen s ≡ x → Permitted s k
-      go false e = absurd (true≢false (sym h ∙ ap (λ (p : ℕ). has p k) (left _ _ e) ∙ has-none k))
+      go false e = absurd (true≢false (sym h ∙ asked-shut e))
       go true e =
           let t = sym (when-open e) ∙ h in
           let o = and-first (has offered k) _ t in

@@ -1,5 +1,6 @@
 // Which kinds of label may be sent.
 ghost use mathlib.Core.Path.{_≡_};
+ghost use Rattle.sets.specs.Set.{has};
 ghost use Rattle.session.specs.Session.{permitted};
 use crate::Session;
 
@@ -16,5 +17,20 @@ impl Session {
             return sets::minus(kinds::ALL_KINDS, disabled);
         }
         0
+    }
+    // Whether one kind is among them; the other nine are not looked at.
+    pub(crate) fn permits(self, kind: u16) -> bool
+        ensures { λ r. ⌜ r ≡ has (permitted self) kind ⌝ }
+    {
+        if self.state == Self::OPEN {
+            if kinds::disables_kind(self.disabled, kind) {
+                return false;
+            }
+            if self.in_force() {
+                return kinds::opens_kind(self.negotiated(), self.protects, kind);
+            }
+            return sets::has(kinds::ALL_KINDS, kind);
+        }
+        false
     }
 }

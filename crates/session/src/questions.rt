@@ -43,7 +43,7 @@ impl Session {
     {
         if self.sound() {
             if kind < kinds::KIND_COUNT {
-                if sets::has(self.permitted(), kind as u16) {
+                if self.permits(kind as u16) {
                     return Permission {
                         refusal: refusals::NOT_REFUSED,
                         permitted: 1,
@@ -70,7 +70,7 @@ impl Session {
         ensures { λ r. ⌜ r ≡ unopened self applications kind ⌝ }
     {
         if self.in_force() {
-            return !sets::has(kinds::opened(applications, self.protects), kind);
+            return !kinds::opens_kind(applications, self.protects, kind);
         }
         false
     }
@@ -82,7 +82,7 @@ impl Session {
         if !(self.state == Self::OPEN) {
             return Self::NOT_OPEN;
         }
-        if sets::has(kinds::disables(self.disabled), kind) {
+        if kinds::disables_kind(self.disabled, kind) {
             return Self::DISABLED_BY_PEER;
         }
         if self.unopened(self.enabled, kind) {

@@ -1,6 +1,7 @@
 // What a sound session is, rule by rule.
 ghost use mathlib.Core.Path.{_≡_};
-ghost use Rattle.session.specs.Session.{sound};
+ghost use mathlib.Core.Bool.{_&&_};
+ghost use Rattle.session.specs.Session.{spareZero, forceSound, listedSound, openSound, helloSound, heldSound, goneSound, sound};
 use crate::Session;
 use kinds::SacApp;
 use kinds::TaId;
@@ -15,32 +16,72 @@ impl Session {
 
     const APPS_END: u8 = 1 << SacApp::COUNT;
 
+    // The state is one of the four, and no spare bit is set.
+    fn spare_zero(self) -> bool
+        ensures { λ r. ⌜ r ≡ spareZero self ⌝ }
+    {
+        if self.state <= Self::GONE {
+            return (self.flags < Self::FLAGS_END)
+                & ((self.enabled < Self::APPLICATIONS_END)
+                    & ((self.listed < Self::APPLICATIONS_END)
+                        & ((self.protects < Self::KINDS_END) & (self.disabled < Self::APPS_END))));
+        }
+        false
+    }
+
+    // In force only in Open with TAC used and a common application; listed empty unless in force.
+    fn lists_sound(self) -> bool
+        ensures { λ r. ⌜ r ≡ (forceSound self && listedSound self) ⌝ }
+    {
+        if self.in_force() {
+            let open = self.state == Self::OPEN;
+            return open & (self.uses_tac() & !(self.negotiated() == 0));
+        }
+        self.listed == 0
+    }
+
+    // Disabled and dynamic 0 unless Open. Held only if active and not (initiating and drops). Gone only if active, initiating and drops, with no
+    // Hello recorded.
+    fn state_sound(self) -> bool
+        ensures { λ r. ⌜ r ≡ (openSound self && (heldSound self && goneSound self)) ⌝ }
+    {
+        if self.state == Self::OPEN {
+            return true;
+        }
+        if (self.disabled == 0) & !self.dynamic() {
+            if self.state == Self::HELD {
+                return self.active() & !self.leaves_gone();
+            }
+            if self.state == Self::GONE {
+                return self.active() & (self.leaves_gone() & !self.recorded());
+            }
+            return true;
+        }
+        false
+    }
+
+    // Hello number 0 unless recorded.
+    fn hello_sound(self) -> bool
+        ensures { λ r. ⌜ r ≡ helloSound self ⌝ }
+    {
+        if self.recorded() {
+            return true;
+        }
+        self.hello == 0
+    }
+
     pub fn sound(self) -> bool
         ensures { λ r. ⌜ r ≡ sound self ⌝ }
     {
-        let open = self.state == Self::OPEN;
-        let in_force = self.in_force();
-        let active = self.active();
-        let leaves_gone = self.leaves_gone();
-        let recorded = self.recorded();
-        // The state is one of the four, and no spare bit is set.
-        let spare_zero = (self.state <= Self::GONE)
-            & ((self.flags < Self::FLAGS_END)
-                & ((self.enabled < Self::APPLICATIONS_END)
-                    & ((self.listed < Self::APPLICATIONS_END)
-                        & ((self.protects < Self::KINDS_END) & (self.disabled < Self::APPS_END)))));
-        // In force only in Open with TAC used and a common application.
-        let force = !in_force | (open & (self.uses_tac() & !(self.negotiated() == 0)));
-        // Listed empty unless in force.
-        let listed = in_force | (self.listed == 0);
-        // Disabled and dynamic 0 unless Open.
-        let shut = open | ((self.disabled == 0) & !self.dynamic());
-        // Hello number 0 unless recorded.
-        let hello = recorded | (self.hello == 0);
-        // Held only if active and not (initiating and drops).
-        let held = !(self.state == Self::HELD) | (active & !leaves_gone);
-        // Gone only if active, initiating and drops, with no Hello recorded.
-        let gone = !(self.state == Self::GONE) | (active & (leaves_gone & !recorded));
-        spare_zero & (force & (listed & (shut & (hello & (held & gone)))))
+        if self.spare_zero() {
+            if self.lists_sound() {
+                if self.state_sound() {
+                    return self.hello_sound();
+                }
+                return false;
+            }
+            return false;
+        }
+        false
     }
 }

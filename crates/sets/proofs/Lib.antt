@@ -4,4 +4,5 @@ pub mod Subsets
 pub mod Switches
 pub mod Chosen
 pub mod Found
+pub mod Shared
 pub mod Flags

@@ -1,7 +1,7 @@
 -- What is in a set made by each operation, and that a set is told by its members: each law once, for every width. An operation on the binary
 -- digits goes member by member, so each law is the operation's table on two digits. Assumes nothing.
 use mathlib.Core.Path.{_≡_, refl, sym, ap, ap₂, _∙_}
-use mathlib.Core.Bool.{Bool, true, false, not, _&&_, _||_, or-true, or-false, and-true, and-false}
+use mathlib.Core.Bool.{Bool, true, false, not, _&&_, _||_, or-true, or-false, and-true, and-false, true≢false}
 use Prim.Native.Nat.{ℕ, zero, suc, _+_, _-_, _*_, _/_, _%_, _^_, _<_, _≤_, suc-le-suc, zero-le}
 use native.Mathlib.Nat.{mod-lt, zero-lt-suc, le-of-suc-le-suc, not-suc-le-zero, one-mul, pow-suc, div-add-mod', div-one, zero-div, div-eq-of-lt, div-self, lt-of-lt-of-le, mul-mod-left, mul-div-cancel}
 use native.Mathlib.Numerals.{one-add, add-one}
@@ -97,6 +97,14 @@ ext (suc w) a b ha hb h =
 pub has-above : (w a k : ℕ) → a < 2 ^ w → w ≤ k → has a k ≡ false
 unfolding has
 has-above w a k h l = ap (λ (n : ℕ). eqb (n % 2) 1) (div-eq-of-lt (lt-of-lt-of-le h (pow-mono l)))
+
+-- so a member is below the width
+pub has-lt : (w a k : ℕ) → a < 2 ^ w → has a k ≡ true → k < w
+has-lt w a k h e = go (decLt k w)
+  where
+    go : Dec (k < w) → k < w
+    go (yes l) = l
+    go (no l) = absurd (true≢false (sym e ∙ has-above w a k h (omega arith)))
 
 -- ---- one member more or less
 has-one-same : (k : ℕ) → has (one k) k ≡ true

@@ -2,11 +2,11 @@
 -- members. Assumes nothing.
 use mathlib.Core.Path.{_≡_, refl, sym, ap, _∙_}
 use mathlib.Core.Bool.{Bool, true, false, not, _&&_, _||_, true≢false}
-use Prim.Native.Nat.{ℕ, zero, suc, _^_, _<_}
-use native.Mathlib.Nat.{pow-suc}
+use Prim.Native.Nat.{ℕ, zero, suc, _+_, _^_, _<_}
+use native.Mathlib.Nat.{pow-suc, lt-of-lt-of-le}
 use native.Mathlib.Omega.{arith}
 use lib.Dec.{lit<}
-use lib.Pow.{pow-pos}
+use lib.Pow.{pow-pos, pow-mono}
 use borrow.Author.Tests.{eqb-true, eq-eqb}
 use Rattle.sets.specs.Set.{has, common, union, minus, empty, within, Within}
 use Rattle.sets.proofs.Members.{has-common, has-union, has-minus, has-none, ext}
@@ -45,13 +45,18 @@ within-union a b c d f g k h = has-union c d k ∙ go (has a k) refl (sym (has-u
         right false q = q
 
 -- ---- the empty set
-lt-pow : (n : ℕ) → n < 2 ^ n
+pub lt-pow : (n : ℕ) → n < 2 ^ n
 lt-pow zero = lit< tt
 lt-pow (suc n) = let h : n < 2 ^ n = lt-pow n in rw pow-suc (omega arith)
 
+-- sets with the same members are one, whatever their width
+pub same-members : (a b : ℕ) → ((k : ℕ) → has a k ≡ has b k) → a ≡ b
+same-members a b f =
+    ext (a + b) a b (lt-of-lt-of-le (lt-pow a) (pow-mono (omega arith))) (lt-of-lt-of-le (lt-pow b) (pow-mono (omega arith))) (λ k _. f k)
+
 -- a set without a member is empty
 pub no-member : (a : ℕ) → ((k : ℕ) → has a k ≡ true → ⊥) → a ≡ 0
-no-member a f = ext a a 0 (lt-pow a) (pow-pos a) (λ k lt. go k (has a k) refl ∙ sym (has-none k))
+no-member a f = same-members a 0 (λ k. go k (has a k) refl ∙ sym (has-none k))
   where
     go : (k : ℕ) (x : Bool) → has a k ≡ x → has a k ≡ false
     go k true e = absurd (f k e)

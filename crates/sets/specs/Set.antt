@@ -2,7 +2,7 @@
 -- applications, kinds and Apps alike. Assumes nothing.
 use Prim.Native.Nat.{ℕ, zero, suc, _+_, _-_, _/_, _%_, _^_}
 use mathlib.Core.Path.{_≡_}
-use mathlib.Core.Bool.{Bool, true, _&&_}
+use mathlib.Core.Bool.{Bool, true, not, _&&_}
 use lib.Bits.{bitAnd, bitOr, bitXor}
 use lib.Dec.{eqb, leb, ltb}
 use Rattle.choice.specs.Pick.{pick}
@@ -41,6 +41,10 @@ without s k = minus s (one k)
 -- nothing is in s
 unfoldable pub empty : ℕ → Bool
 empty s = eqb s 0
+
+-- some member of a is one of b
+unfoldable pub meets : ℕ → ℕ → Bool
+meets a b = not (empty (common a b))
 
 -- each member of a is one of b: as a test, and said of the members
 unfoldable pub within : ℕ → ℕ → Bool

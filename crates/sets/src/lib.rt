@@ -2,7 +2,7 @@
 // widened on its way in.
 ghost use mathlib.Core.Path.{_≡_};
 ghost use Prim.Native.Nat.{_<_, _≤_};
-ghost use Rattle.sets.specs.Set.{setWidth, has, common, union, minus, with, without, numbered, switched};
+ghost use Rattle.sets.specs.Set.{setWidth, has, common, meets, union, minus, with, without, numbered, switched};
 
 // The members of a set are below this.
 const WIDTH: u16 = 16;
@@ -22,6 +22,13 @@ pub fn common(a: u16, b: u16) -> u16
     ensures { λ r. ⌜ r ≡ common a b ⌝ }
 {
     a & b
+}
+
+// Whether something is in both.
+pub fn meets(a: u16, b: u16) -> bool
+    ensures { λ r. ⌜ r ≡ meets a b ⌝ }
+{
+    !(common(a, b) == 0)
 }
 
 // What is in either.

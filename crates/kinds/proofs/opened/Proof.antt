@@ -1,38 +1,26 @@
--- `kinds::opened` meets its contract. The loop's invariant: the kinds are those of the applications 1 to i. Assumes nothing.
-use mathlib.Core.Path.{_≡_, refl}
-use Prim.Native.Nat.{_≤_, _-_}
-use native.Mathlib.Omega.{arith}
+-- `kinds::opened` meets its contract: by the table kind by kind, and by Session Protection where it is in the set. Assumes nothing.
+use mathlib.Core.Path.{_∙_, sym, ap, ap₂}
+use Rattle.choice.proofs.Branch.{taken, left}
+use Rattle.sets.specs.Set.{union}
+use Rattle.sets.proofs.Members.{union-none}
+use Rattle.kinds.proofs.ByKind.{opened-by-kind}
 use borrow.Author.Needs.{needs}
-use Rattle.kinds.specs.Kinds.{applicationCount, gather, opens, opened}
-use Rattle.kinds.proofs.Gathered.{gather-next}
 use Rattle.kinds.proofs.opened.Statement.{statement}
 use Rattle.kinds.proofs.opened.Tie as tie
 
-abbrev Inv-loop : tie.InvT-loop
-Inv-loop applications protects kinds₀ i₀ kinds i = (i ≤ applicationCount) × (kinds ≡ gather (opens protects) i applications)
-
-abbrev μ-loop : tie.MeasureT-loop
-μ-loop applications protects kinds₀ i₀ kinds i = applicationCount - i
-
-loop-holds : tie.Need-loop-holds Inv-loop μ-loop
-unfolding gather
-loop-holds c = (omega arith, refl)
-
-loop-again : tie.Need-loop-again Inv-loop μ-loop
-loop-again c =
-    (omega arith, gather-next _ _ _ (c .before .before .before .loop .inv .1) (c .before .opened-at .ensures) (c .union .ensures))
-
-returns : tie.Need-returns Inv-loop μ-loop
-unfolding opened
+returns : tie.Need-returns
 returns c =
-    let l = c .before .loop in
-    let e : l .i ≡ applicationCount = omega arith in
-    rw e at (l .inv .1)
+    c .union .ensures
+    ∙ ap₂ union (c .before .before .before .kinds-by .ensures) (sym (taken _ 0 (sym (c .before .before .has .ensures) ∙ c .before .if1 .taken)))
+    ∙ opened-by-kind _ _
+
+returns-2 : tie.Need-returns-2
+returns-2 c =
+    c .before .before .kinds-by .ensures
+    ∙ sym (union-none _)
+    ∙ ap (union _) (sym (left _ 0 (sym (c .before .has .ensures) ∙ c .if1 .left)))
+    ∙ opened-by-kind _ _
 
 pub opened-spec : {M : Type 1} → statement M
 opened-spec =
-    tie.close
-    (tie.spec
-    Inv-loop μ-loop loop-holds
-    (λ c κs. omega arith) (λ c κs. search needs) (λ c. omega arith) (λ c. omega arith) loop-again
-    returns)
+    tie.close (tie.spec (λ c κs. search needs) (λ c κs. search needs) (λ c κs. search needs) returns returns-2)

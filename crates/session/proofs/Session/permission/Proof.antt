@@ -9,11 +9,11 @@ use Rattle.session.proofs.Session.permission.Tie as tie
 
 returns : tie.Need-returns
 unfolding permission
-returns c = simp (sym (c .before .before .before .before .before .sound .ensures) ∙ c .before .before .before .before .if1 .taken, lt-ltb _ _ (c .before .before .before .if2 .taken), sym (c .before .has .ensures) ∙ c .if3 .taken, sym (c .before .before .permitted .ensures), pick-true)
+returns c = simp (sym (c .before .before .before .before .sound .ensures) ∙ c .before .before .before .if1 .taken, lt-ltb _ _ (c .before .before .if2 .taken), sym (c .before .permits .ensures) ∙ c .if3 .taken, pick-true)
 
 returns-2 : tie.Need-returns-2
 unfolding permission
-returns-2 c = simp (sym (c .before .before .before .before .before .sound .ensures) ∙ c .before .before .before .before .if1 .taken, lt-ltb _ _ (c .before .before .before .if2 .taken), sym (c .before .has .ensures) ∙ c .if3 .left, sym (c .before .before .permitted .ensures), pick-true, pick-false)
+returns-2 c = simp (sym (c .before .before .before .before .sound .ensures) ∙ c .before .before .before .if1 .taken, lt-ltb _ _ (c .before .before .if2 .taken), sym (c .before .permits .ensures) ∙ c .if3 .left, pick-true, pick-false)
 
 returns-3 : tie.Need-returns-3
 unfolding permission
@@ -27,7 +27,7 @@ pub permission-spec : {M : Type 1} → statement M
 permission-spec =
     tie.close
     (tie.spec
-    (λ c κs. search needs) (λ c κs. search needs) (λ c. search needs) (λ c κs. search needs) returns
+    (λ c κs. search needs) (λ c. search needs) (λ c κs. search needs) returns
     returns-2
     returns-3
     returns-4)

@@ -7,7 +7,7 @@ use Rattle.session.proofs.Session.unopened.Tie as tie
 
 returns : tie.Need-returns
 unfolding unopened
-returns c = simp (sym (c .before .before .before .in-force .ensures) ∙ c .before .before .if1 .taken, c .has .ensures, c .before .opened .ensures)
+returns c = simp (sym (c .before .before .in-force .ensures) ∙ c .before .if1 .taken, c .opens-kind .ensures)
 
 returns-2 : tie.Need-returns-2
 unfolding unopened
@@ -15,4 +15,4 @@ returns-2 c = simp (sym (c .before .in-force .ensures) ∙ c .if1 .left)
 
 pub unopened-spec : {M : Type 1} → statement M
 unopened-spec =
-    tie.close (tie.spec (λ c κs. search needs) (λ c κs. search needs) (λ c κs. search needs) returns returns-2)
+    tie.close (tie.spec (λ c κs. search needs) (λ c κs. search needs) returns returns-2)

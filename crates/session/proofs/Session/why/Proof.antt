@@ -12,26 +12,26 @@ returns c = simp (c .if1 .taken, pick-true)
 
 returns-2 : tie.Need-returns-2
 unfolding why
-returns-2 c = simp (c .before .before .before .if1 .left, sym (c .before .has .ensures) ∙ c .if2 .taken, sym (c .before .before .disables .ensures), pick-true, pick-false)
+returns-2 c = simp (c .before .before .if1 .left, sym (c .before .disables-kind .ensures) ∙ c .if2 .taken, pick-true, pick-false)
 
 returns-3 : tie.Need-returns-3
 unfolding why
-returns-3 c = simp (c .before .before .before .before .before .if1 .left, sym (c .before .before .before .has .ensures) ∙ c .before .before .if2 .left, sym (c .before .before .before .before .disables .ensures), sym (c .before .unopened .ensures) ∙ c .if3 .taken, pick-true, pick-false)
+returns-3 c = simp (c .before .before .before .before .if1 .left, sym (c .before .before .before .disables-kind .ensures) ∙ c .before .before .if2 .left, sym (c .before .unopened .ensures) ∙ c .if3 .taken, pick-true, pick-false)
 
 returns-4 : tie.Need-returns-4
 unfolding why
-returns-4 c = simp (c .before .before .before .before .before .before .before .before .if1 .left, sym (c .before .before .before .before .before .before .has .ensures) ∙ c .before .before .before .before .before .if2 .left, sym (c .before .before .before .before .before .before .before .disables .ensures), sym (c .before .before .before .before .unopened .ensures) ∙ c .before .before .before .if3 .left, sym (c .before .unopened2 .ensures) ∙ c .if4 .taken, sym (c .before .before .negotiated .ensures), pick-true, pick-false)
+returns-4 c = simp (c .before .before .before .before .before .before .before .if1 .left, sym (c .before .before .before .before .before .before .disables-kind .ensures) ∙ c .before .before .before .before .before .if2 .left, sym (c .before .before .before .before .unopened .ensures) ∙ c .before .before .before .if3 .left, sym (c .before .unopened2 .ensures) ∙ c .if4 .taken, sym (c .before .before .negotiated .ensures), pick-true, pick-false)
 
 returns-5 : tie.Need-returns-5
 unfolding why
-returns-5 c = simp (c .before .before .before .before .before .before .before .before .if1 .left, sym (c .before .before .before .before .before .before .has .ensures) ∙ c .before .before .before .before .before .if2 .left, sym (c .before .before .before .before .before .before .before .disables .ensures), sym (c .before .before .before .before .unopened .ensures) ∙ c .before .before .before .if3 .left, sym (c .before .unopened2 .ensures) ∙ c .if4 .left, sym (c .before .before .negotiated .ensures), pick-false)
+returns-5 c = simp (c .before .before .before .before .before .before .before .if1 .left, sym (c .before .before .before .before .before .before .disables-kind .ensures) ∙ c .before .before .before .before .before .if2 .left, sym (c .before .before .before .before .unopened .ensures) ∙ c .before .before .before .if3 .left, sym (c .before .unopened2 .ensures) ∙ c .if4 .left, sym (c .before .before .negotiated .ensures), pick-false)
 
 pub why-spec : {M : Type 1} → statement M
 why-spec =
     tie.close
     (tie.spec
     returns
-    (λ c κs. search needs) (λ c κs. search needs) returns-2
+    (λ c κs. search needs) returns-2
     (λ c κs. search needs) returns-3
     (λ c κs. search needs) (λ c κs. search needs) returns-4
     returns-5)
