@@ -90,12 +90,6 @@ always-lt : (k : ℕ) → openersAlways k < 2 ^ applicationCount
 always-lt k = rw (← openers-at k) (every-lt (2 ^ applicationCount) openersSets tt (lit< tt) k)
 
 module _ (protects k : ℕ) where
-  pub openers-lt : openers protects k < 2 ^ applicationCount
-  unfolding openers
-  openers-lt =
-      by-test (λ (s : ℕ). s < 2 ^ applicationCount)
-      (λ _. with-lt applicationCount (openersAlways k) (sessionProtection - 1) (always-lt k) (lit< tt)) (λ _. always-lt k)
-
   -- it is added for the protected kinds, and for no other
   at-protection : has protects k ≡ has (openers protects k) (sessionProtection - 1)
   unfolding openers
@@ -115,6 +109,12 @@ module _ (protects k : ℕ) where
   at-known n h =
       by-test (λ (s : ℕ). has s k ≡ has (openers protects k) (n - 1)) (λ e. rw (eqb-true n sessionProtection e) at-protection)
       (λ e. at-application (n - 1) k ∙ at-other (n - 1) (λ q. eqb-false n sessionProtection e (omega (arith, numbered-is applicationCount n h))))
+
+  pub openers-lt : openers protects k < 2 ^ applicationCount
+  unfolding openers
+  openers-lt =
+      by-test (λ (s : ℕ). s < 2 ^ applicationCount)
+      (λ _. with-lt applicationCount (openersAlways k) (sessionProtection - 1) (always-lt k) (lit< tt)) (λ _. always-lt k)
 
 pub layouts-agree : LayoutsAgree
 unfolding opens isIn

@@ -7,6 +7,7 @@ sets-determined =
     record {
       has = by-equation _;
       common = by-equation _;
+      meets = by-equation _;
       union = by-equation _;
       minus = by-equation _;
       numbered = by-equation _;
@@ -20,7 +21,9 @@ kinds-determined =
       is-in = by-equation _;
       switched = by-equation _;
       app-switched = by-equation _;
+      opens-kind = by-equation _;
       opened = by-equation _;
+      disables-kind = by-equation _;
       disables = by-equation _;
     }
 

@@ -4,6 +4,7 @@ use denote.Ref.{now}
 use Rattle.choice.specs.Determined.{Determined, Determines, both}
 use Rattle.sets.proofs.has.Reads as sets-has
 use Rattle.sets.proofs.common.Reads as sets-common
+use Rattle.sets.proofs.meets.Reads as sets-meets
 use Rattle.sets.proofs.union.Reads as sets-union
 use Rattle.sets.proofs.minus.Reads as sets-minus
 use Rattle.sets.proofs.numbered.Reads as sets-numbered
@@ -12,7 +13,9 @@ use Rattle.kinds.proofs.TaId.is_known.Reads as kinds-is-known
 use Rattle.kinds.proofs.TaId.is_in.Reads as kinds-is-in
 use Rattle.kinds.proofs.TaId.switched.Reads as kinds-switched
 use Rattle.kinds.proofs.SacApp.switched.Reads as kinds-app-switched
+use Rattle.kinds.proofs.opens_kind.Reads as kinds-opens-kind
 use Rattle.kinds.proofs.opened.Reads as kinds-opened
+use Rattle.kinds.proofs.disables_kind.Reads as kinds-disables-kind
 use Rattle.kinds.proofs.disables.Reads as kinds-disables
 use Rattle.octets.proofs.put.Reads as octets-put
 use Rattle.octets.proofs.put_at.Reads as octets-put-at
@@ -77,6 +80,7 @@ use Rattle.promises.specs.Walked.{TallyOf, RowCount, RowEventCall}
 pub record SetsDetermined : Type 0 where
   pub has : Determined (sets-has.Post tt)
   pub common : Determined (sets-common.Post tt)
+  pub meets : Determined (sets-meets.Post tt)
   pub union : Determined (sets-union.Post tt)
   pub minus : Determined (sets-minus.Post tt)
   pub numbered : Determined (sets-numbered.Post tt)
@@ -87,7 +91,9 @@ pub record KindsDetermined : Type 0 where
   pub is-in : Determined (kinds-is-in.Post tt)
   pub switched : Determined (kinds-switched.Post tt)
   pub app-switched : Determined (kinds-app-switched.Post tt)
+  pub opens-kind : Determined (kinds-opens-kind.Post tt)
   pub opened : Determined (kinds-opened.Post tt)
+  pub disables-kind : Determined (kinds-disables-kind.Post tt)
   pub disables : Determined (kinds-disables.Post tt)
 
 pub record OctetsDetermined : Type 0 where

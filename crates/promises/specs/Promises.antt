@@ -1,4 +1,5 @@
 -- All that is promised of sessions, records and rows beyond what each function ensures, and all laws that docs/PROMISES.md cites. Assumes nothing.
+use Rattle.kinds.specs.ByKind.{LayoutsAgree, AppLayoutsAgree}
 use Rattle.area.specs.Parts.{PartsInside, NothingAfterRefusal}
 use Rattle.area.specs.Tlvs.{ReadByTlvs}
 use Rattle.lists.specs.Tac.{FirstDecides, AbsentStays, ListedIsPresent, UnknownIsSkipped}
@@ -22,6 +23,9 @@ use Rattle.promises.specs.RowExamples.{RowExamples, WhyTheOneSession}
 use Rattle.promises.specs.Determined.{AllDetermined}
 
 pub record Promises : Type 0 where
+  -- applications and kinds
+  pub layouts-agree : LayoutsAgree
+  pub app-layouts-agree : AppLayoutsAgree
   -- reading, and lists
   pub parts-inside : PartsInside
   pub nothing-after-refusal : NothingAfterRefusal
