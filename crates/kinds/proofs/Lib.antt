@@ -2,3 +2,4 @@ pub mod Table
 pub mod Turned
 pub mod Gathered
 pub mod ByKind
+pub mod Examples

@@ -16,7 +16,7 @@ pub const KIND_COUNT: u32 = 10;
 
 pub const ALL_KINDS: u16 = (1 << KIND_COUNT) - 1;
 
-// A set of applications or Apps for each kind, from kind 0 on. A number n stands at bit n - 1.
+// A table has a set of applications or of Apps for each kind, from kind 0 on. In it the number n stands at bit n - 1.
 const KINDS: usize = KIND_COUNT as usize;
 
 // 1 LDPv4 Tunneling, 4 LDPv4 Remote LFA, 12 IPv4 intra-area FECs.
@@ -42,19 +42,8 @@ const OPENERS: [u16; KINDS] = [
     1 << 9, // 9 P2MP PW Upstream: 10 P2MP PW
 ];
 
-// The SAC application that controls each kind.
-const CONTROLLERS: [u16; KINDS] = [
-    1 << 0, // 0 IPv4 prefix
-    1 << 1, // 1 IPv6 prefix
-    0,
-    0,
-    0,
-    0,
-    0,
-    1 << 2, // 7 PWid
-    1 << 3, // 8 Generalized PWid
-    0,
-];
+// The Apps that control each kind: App 1 kind 0, 2 kind 1, 3 kind 7, 4 kind 8.
+const CONTROLLERS: [u16; KINDS] = [1 << 0, 1 << 1, 0, 0, 0, 0, 0, 1 << 2, 1 << 3, 0];
 
 impl TaId {
     pub const COUNT: u32 = 13;

@@ -70,6 +70,7 @@ impl Session {
         self.hello == 0
     }
 
+    // All of them; once one fails the others are not asked.
     pub fn sound(self) -> bool
         ensures { λ r. ⌜ r ≡ sound self ⌝ }
     {

@@ -1,0 +1,28 @@
+-- The two layouts side by side at some numbers, computed: sets have application n at bit n - 1, kind k at bit k. Assumes nothing.
+use mathlib.Core.Path.{_≡_, refl}
+use mathlib.Core.Bool.{true, false}
+use Rattle.choice.specs.Pick.{pick}
+use Rattle.sets.specs.Set.{has, union, with, numbered}
+use Rattle.kinds.specs.Kinds.{isIn, setOf, opens}
+use Rattle.kinds.specs.ByKind.{placed, openersAlways, openers, controllers}
+
+-- kind 0 is opened by 1, 4 and 12, and by 8 where it is protected; kind 9 by 10; kind 12, which is none, by 8 where a set has that bit, and else by none
+asked : (openers 0 0 ≡ 0x0809)
+    × (openers 0x001 0 ≡ 0x0889)
+    × (openers 0x001 9 ≡ 0x0200)
+    × (openers 0x1000 12 ≡ 0x0080)
+    × (openers 0x0FFF 12 ≡ 0)
+unfolding pick has union with placed openersAlways openers
+asked = (refl, refl, refl, refl, refl)
+
+-- 8 opens kinds 1 and 9 where these are protected; 4 opens kind 0, the App 4 controls kind 8; 0 and 14 open none and are among no openers
+by-number : (opens 0x202 8 ≡ 0x202)
+    × (isIn (openers 0x202 9) 8 ≡ true)
+    × (isIn (openers 0x202 0) 8 ≡ false)
+    × (isIn (openers 0 0) 4 ≡ true)
+    × (controllers 8 ≡ 0x08)
+    × (opens 0x3FF 14 ≡ 0)
+    × (isIn (openers 0x3FF 0) 0 ≡ false)
+    × (isIn (openers 0x3FF 0) 14 ≡ false)
+unfolding pick has union with numbered isIn setOf opens placed openersAlways openers controllers
+by-number = (refl, refl, refl, refl, refl, refl, refl, refl)
