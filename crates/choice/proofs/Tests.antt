@@ -16,7 +16,6 @@ pub and-both : (x y : Bool) → x ≡ true → y ≡ true → (x && y) ≡ true
 and-both true y h k = k
 and-both false y h k = h
 
--- not is false where the test holds
 pub or-first : (x y : Bool) → x ≡ true → (x || y) ≡ true
 or-first true y h = refl
 or-first false y h = absurd (false≢true h)
@@ -29,6 +28,7 @@ pub or-either : (x y : Bool) → (x || y) ≡ true → (x ≡ true) ⊎ (y ≡ t
 or-either true y h = inl refl
 or-either false y h = inr h
 
+-- where `not` holds, the test does not
 pub not-false : (x : Bool) → not x ≡ true → x ≡ false
 not-false true h = absurd (false≢true h)
 not-false false h = refl

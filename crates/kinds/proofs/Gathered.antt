@@ -1,7 +1,7 @@
 -- What the members of a set stand for together: a kind is there exactly when some member stands for it; a larger set gives no less; and no
 -- bits come beyond the members' own. One induction each, over the numbers 1 to w, for applications and Apps alike. Assumes nothing.
 use mathlib.Core.Path.{_≡_, refl, sym, ap, ap₂, _∙_}
-use mathlib.Core.Logic.{_⊎_, inl, inr, ⊎-elim}
+use mathlib.Core.Logic.{⊎-elim}
 use mathlib.Core.Bool.{Bool, true, false, _||_, true≢false}
 use Prim.Native.Nat.{ℕ, zero, suc, _+_, _-_, _^_, _<_}
 use native.Mathlib.Numerals.{add-one}
@@ -10,6 +10,7 @@ use native.Mathlib.Decide.{decLt}
 use lib.Pow.{pow-pos}
 use Rattle.choice.specs.Pick.{pick}
 use Rattle.choice.proofs.Branch.{by-test, taken}
+use Rattle.choice.proofs.Tests.{or-second, or-either}
 use Rattle.sets.specs.Set.{has, union, Within}
 use Rattle.sets.proofs.Members.{has-union, has-none}
 use Rattle.sets.proofs.Bounds.{union-lt}
@@ -24,14 +25,6 @@ module _ (kindsOf : ℕ → ℕ) where
   gather-next w s k m n = n ∙ ap₂ union k m ∙ ap (λ (n : ℕ). gather kindsOf n s) (sym (add-one w))
 
   -- ---- exactly when some member stands for it
-  either : (x y : Bool) → (x || y) ≡ true → (x ≡ true) ⊎ (y ≡ true)
-  either true y h = inl refl
-  either false y h = inr h
-
-  or-right : (x y : Bool) → y ≡ true → (x || y) ≡ true
-  or-right true y h = refl
-  or-right false y h = h
-
   picked : (x : Bool) (r k : ℕ) → has (pick x r 0) k ≡ true → (x ≡ true) × (has r k ≡ true)
   unfolding pick
   picked true r k h = (refl, h)
@@ -42,7 +35,7 @@ module _ (kindsOf : ℕ → ℕ) where
   gather-some zero s k h = absurd (true≢false (sym h ∙ has-none k))
   gather-some (suc w) s k h =
       ⊎-elim (λ l. wider (gather-some w s k l)) (λ r. here (picked (has s w) (kindsOf (w + 1)) k r))
-      (either (has (gather kindsOf w s) k) (has (member kindsOf s w) k) (sym (has-union (gather kindsOf w s) (member kindsOf s w) k) ∙ h))
+      (or-either (has (gather kindsOf w s) k) (has (member kindsOf s w) k) (sym (has-union (gather kindsOf w s) (member kindsOf s w) k) ∙ h))
     where
       wider : Some kindsOf w s k → Some kindsOf (suc w) s k
       wider o = record { number = o .number; least = o .least; most = omega (arith, o .most); member = o .member; maps = o .maps }
@@ -67,7 +60,7 @@ module _ (kindsOf : ℕ → ℕ) where
       go f (no l) =
           let e : o .number ≡ w + 1 = omega (arith, o .most) in
           let place : o .number - 1 ≡ w = omega arith in
-          or-right (has (gather kindsOf w s) k) (has (member kindsOf s w) k)
+          or-second (has (gather kindsOf w s) k) (has (member kindsOf s w) k)
           (ap (λ (r : ℕ). has r k) (taken (kindsOf (w + 1)) 0 (rw place at (o .member))) ∙ (rw e at (o .maps)))
 
   -- ---- a larger set gives no less

@@ -4,7 +4,7 @@ use mathlib.Core.Path.{_≡_, refl, sym, ap, _∙_}
 use mathlib.Core.List.{List, []}
 use mathlib.Core.Bool.{Bool, true, false, not, _&&_}
 use Prim.Native.Nat.{ℕ, zero, suc, _-_, _^_, _<_, _≤_}
-use native.Mathlib.Decide.{decLt, ℕ-discrete}
+use native.Mathlib.Decide.{decLt}
 use native.Mathlib.Nat.{le-refl}
 use native.Mathlib.Omega.{arith}
 use lib.Dec.{T, eqb, lit<}
@@ -18,7 +18,7 @@ use Rattle.sets.specs.Set.{has, with, numbered}
 use Rattle.sets.proofs.Members.{has-none, has-above, has-with-same, has-with-other}
 use Rattle.sets.proofs.Bounds.{with-lt}
 use Rattle.sets.proofs.Switches.{numbered-is}
-use Rattle.kinds.specs.Kinds.{applicationCount, kindCount, appCount, knownApplication, isIn, sessionProtection, opensTable, controlsTable, setOf, opens, controlled}
+use Rattle.kinds.specs.Kinds.{applicationCount, kindCount, appCount, knownApplication, isIn, sessionProtection, opensTable, setOf, opens, controlled}
 use Rattle.kinds.specs.ByKind.{openersAlways, openers, controllers, LayoutsAgree, AppLayoutsAgree}
 use Rattle.kinds.proofs.Table.{opensSets, opens-at, controlsSets, controls-at, openersSets, openers-at, controllersSets, controllers-at, every, every-lt}
 

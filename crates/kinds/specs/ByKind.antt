@@ -3,8 +3,8 @@
 -- agree. Assumes nothing.
 use Prim.Native.Nat.{ℕ, _-_}
 use mathlib.Core.Path.{_≡_}
-use mathlib.Core.Bool.{Bool, _&&_}
-use mathlib.Core.List.{List, [], _∷_, map}
+use mathlib.Core.Bool.{_&&_}
+use mathlib.Core.List.{List, [], _∷_}
 use lib.ListN.{getD}
 use Rattle.choice.specs.Pick.{pick}
 use Rattle.sets.specs.Set.{has, with, meets, numbered, chosen}

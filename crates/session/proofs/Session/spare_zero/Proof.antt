@@ -1,9 +1,7 @@
 -- `Session::spare_zero` meets its contract: each return by the test that led there. Assumes nothing.
-use mathlib.Core.Path.{sym}
 use borrow.Author.Tests.{le-leb, lt-leb}
 use Rattle.sets.specs.Set.{below}
 use Rattle.session.specs.Session.{spareZero}
-use borrow.Author.Needs.{needs}
 use Rattle.session.proofs.Session.spare_zero.Statement.{statement}
 use Rattle.session.proofs.Session.spare_zero.Tie as tie
 
