@@ -16,6 +16,11 @@ pub and-both : (x y : Bool) → x ≡ true → y ≡ true → (x && y) ≡ true
 and-both true y h k = k
 and-both false y h k = h
 
+-- the second counts only where the first holds
+pub and-where : (x : Bool) {y z : Bool} → (x ≡ true → y ≡ z) → (x && y) ≡ (x && z)
+and-where true f = f refl
+and-where false f = refl
+
 pub or-first : (x y : Bool) → x ≡ true → (x || y) ≡ true
 or-first true y h = refl
 or-first false y h = absurd (false≢true h)

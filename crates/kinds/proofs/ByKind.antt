@@ -12,13 +12,13 @@ use Rattle.choice.specs.Pick.{pick}
 use Rattle.choice.proofs.Branch.{by-test}
 use Rattle.choice.proofs.Tests.{same-test}
 use Rattle.sets.specs.Set.{has, union, with, meets, numbered, switched, chosen}
-use Rattle.sets.proofs.Members.{has-union, has-none, has-above, has-lt}
+use Rattle.sets.proofs.Members.{has-pick, has-union, has-above, has-lt}
 use Rattle.sets.proofs.Subsets.{same-members}
 use Rattle.sets.proofs.Switches.{is-numbered}
 use Rattle.sets.proofs.Chosen.{chosen-has, chosen-lt, chosen-more}
 use Rattle.sets.proofs.Shared.{Shared, meets-shared, shared-meets, meets-none, meets-with}
 use Rattle.kinds.specs.Kinds.{applicationCount, kindCount, appCount, isIn, sessionProtection, gather, opens, controlled, opened, disables, Some}
-use Rattle.kinds.specs.ByKind.{openersAlways, openers, controllers, kindsBy}
+use Rattle.kinds.specs.ByKind.{openersAlways, openers, controllers, standFor, kindsBy}
 use Rattle.kinds.proofs.Table.{openersSets, openers-at, controllersSets, controllers-at}
 use Rattle.kinds.proofs.Turned.{openers-lt, layouts-agree, controllers-lt, app-layouts-agree}
 use Rattle.kinds.proofs.Gathered.{gather-some, some-gather}
@@ -60,28 +60,25 @@ disables-meets apps k = gather-meets controlled appCount (controllers k) k (cont
 
 -- ---- every kind
 -- one kind more
-pub kinds-next : (table : List ℕ) (members i : ℕ) {kinds set next : ℕ} {on : Bool} → kinds ≡ chosen kindCount (λ n. meets members (getD table (n - 1) 0)) i
+pub kinds-next : (table : List ℕ) (members i : ℕ) {kinds set next : ℕ} {on : Bool} → kinds ≡ chosen kindCount (standFor table members) i
     → set ≡ getD table i 0 → on ≡ meets members set → next ≡ switched kindCount kinds (i + 1) on
-    → next ≡ chosen kindCount (λ n. meets members (getD table (n - 1) 0)) (i + 1)
+    → next ≡ chosen kindCount (standFor table members) (i + 1)
 kinds-next table members i {set} k s o n =
     let place : i + 1 - 1 ≡ i = omega arith in
     n
     ∙ ap₂ (λ (x : ℕ) (b : Bool). switched kindCount x (i + 1) b) k (o ∙ ap (meets members) (s ∙ sym (ap (λ (j : ℕ). getD table j 0) place)))
-    ∙ sym (chosen-more kindCount (λ n. meets members (getD table (n - 1) 0)) i)
+    ∙ sym (chosen-more kindCount (standFor table members) i)
 
 has-kinds-by : (table : List ℕ) → length table ≤ kindCount → (members k : ℕ) → has (kindsBy table members) k ≡ meets members (getD table k 0)
 unfolding kindsBy
 has-kinds-by table short members k = go (decLt k kindCount)
   where
-    test : ℕ → Bool
-    test n = meets members (getD table (n - 1) 0)
-
-    go : Dec (k < kindCount) → has (chosen kindCount test kindCount) k ≡ meets members (getD table k 0)
+    go : Dec (k < kindCount) → has (chosen kindCount (standFor table members) kindCount) k ≡ meets members (getD table k 0)
     go (yes l) =
         let place : k + 1 - 1 ≡ k = omega arith in
-        rw place at (chosen-has kindCount test kindCount (k + 1) (le-refl kindCount) (omega arith) (omega arith))
+        rw place at (chosen-has kindCount (standFor table members) kindCount (k + 1) (le-refl kindCount) (omega arith) (omega arith))
     go (no d) =
-        has-above kindCount (chosen kindCount test kindCount) k (chosen-lt kindCount test kindCount) (omega arith)
+        has-above kindCount (chosen kindCount (standFor table members) kindCount) k (chosen-lt kindCount (standFor table members) kindCount) (omega arith)
         ∙ sym (ap (meets members) (List·getD-eq-default table 0 (omega (arith, short))) ∙ meets-none members)
 
 pub disables-by-kind : (apps : ℕ) → kindsBy controllersSets apps ≡ disables apps
@@ -94,12 +91,7 @@ module _ (protects applications : ℕ) where
   protected = pick (has applications (sessionProtection - 1)) protects 0
 
   has-protected : (k : ℕ) → has protected k ≡ has applications (sessionProtection - 1) && has protects k
-  unfolding pick
-  has-protected k = go (has applications (sessionProtection - 1))
-    where
-      go : (x : Bool) → has (pick x protects 0) k ≡ x && has protects k
-      go true = refl
-      go false = has-none k
+  has-protected = has-pick (has applications (sessionProtection - 1)) protects
 
   meets-openers : (k : ℕ) → meets applications (openers protects k) ≡ meets applications (openersAlways k) || has protected k
   unfolding openers

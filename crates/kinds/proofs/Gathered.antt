@@ -1,49 +1,43 @@
 -- What the members of a set stand for together: a kind is there exactly when some member stands for it; a larger set gives no less; and no
 -- bits come beyond the members' own. One induction each, over the numbers 1 to w, for applications and Apps alike. Assumes nothing.
-use mathlib.Core.Path.{_≡_, refl, sym, ap, ap₂, _∙_}
+use mathlib.Core.Path.{_≡_, refl, sym, ap, _∙_}
 use mathlib.Core.Logic.{⊎-elim}
-use mathlib.Core.Bool.{Bool, true, false, _||_, true≢false}
+use mathlib.Core.Bool.{Bool, true, false, _&&_, _||_, true≢false}
 use Prim.Native.Nat.{ℕ, zero, suc, _+_, _-_, _^_, _<_}
-use native.Mathlib.Numerals.{add-one}
 use native.Mathlib.Omega.{arith}
 use native.Mathlib.Decide.{decLt}
 use lib.Pow.{pow-pos}
 use Rattle.choice.specs.Pick.{pick}
 use Rattle.choice.proofs.Branch.{by-test, taken}
-use Rattle.choice.proofs.Tests.{or-second, or-either}
+use Rattle.choice.proofs.Tests.{and-first, and-second, or-second, or-either}
 use Rattle.sets.specs.Set.{has, union, Within}
-use Rattle.sets.proofs.Members.{has-union, has-none}
+use Rattle.sets.proofs.Members.{has-pick, has-union, has-none}
 use Rattle.sets.proofs.Bounds.{union-lt}
 use Rattle.sets.proofs.Subsets.{within-self, within-none, within-union}
 use Rattle.kinds.specs.Kinds.{applicationCount, appCount, member, gather, opens, controlled, opened, disables, Some}
 
 module _ (kindsOf : ℕ → ℕ) where
-  -- one number more
-  pub gather-next : (w s : ℕ) {kinds more next : ℕ} → kinds ≡ gather kindsOf w s → more ≡ member kindsOf s w → next ≡ union kinds more
-      → next ≡ gather kindsOf (w + 1) s
-  unfolding gather
-  gather-next w s k m n = n ∙ ap₂ union k m ∙ ap (λ (n : ℕ). gather kindsOf n s) (sym (add-one w))
-
   -- ---- exactly when some member stands for it
-  picked : (x : Bool) (r k : ℕ) → has (pick x r 0) k ≡ true → (x ≡ true) × (has r k ≡ true)
-  unfolding pick
-  picked true r k h = (refl, h)
-  picked false r k h = absurd (true≢false (sym h ∙ has-none k))
-
   pub gather-some : (w s k : ℕ) → has (gather kindsOf w s) k ≡ true → Some kindsOf w s k
   unfolding gather
   gather-some zero s k h = absurd (true≢false (sym h ∙ has-none k))
   gather-some (suc w) s k h =
-      ⊎-elim (λ l. wider (gather-some w s k l)) (λ r. here (picked (has s w) (kindsOf (w + 1)) k r))
+      ⊎-elim (λ l. wider (gather-some w s k l)) (λ r. here (sym (has-pick (has s w) (kindsOf (w + 1)) k) ∙ r))
       (or-either (has (gather kindsOf w s) k) (has (member kindsOf s w) k) (sym (has-union (gather kindsOf w s) (member kindsOf s w) k) ∙ h))
     where
       wider : Some kindsOf w s k → Some kindsOf (suc w) s k
       wider o = record { number = o .number; least = o .least; most = omega (arith, o .most); member = o .member; maps = o .maps }
 
-      here : (has s w ≡ true) × (has (kindsOf (w + 1)) k ≡ true) → Some kindsOf (suc w) s k
+      here : (has s w && has (kindsOf (w + 1)) k) ≡ true → Some kindsOf (suc w) s k
       here p =
           let place : w + 1 - 1 ≡ w = omega arith in
-          record { number = w + 1; least = omega arith; most = omega arith; member = rw place (p .0); maps = p .1 }
+          record {
+            number = w + 1;
+            least = omega arith;
+            most = omega arith;
+            member = rw place (and-first (has s w) (has (kindsOf (w + 1)) k) p);
+            maps = and-second (has s w) (has (kindsOf (w + 1)) k) p;
+          }
 
   pub some-gather : (w s k : ℕ) → Some kindsOf w s k → has (gather kindsOf w s) k ≡ true
   unfolding gather

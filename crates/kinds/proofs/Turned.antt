@@ -13,9 +13,9 @@ use lib.ListN.{getD, length, List·getD-eq-default}
 use borrow.Author.Tests.{eqb-true, eqb-false}
 use Rattle.choice.specs.Pick.{pick}
 use Rattle.choice.proofs.Branch.{by-test}
-use Rattle.choice.proofs.Tests.{and-first, and-second}
+use Rattle.choice.proofs.Tests.{and-first, and-second, and-where}
 use Rattle.sets.specs.Set.{has, with, numbered}
-use Rattle.sets.proofs.Members.{has-none, has-above, has-with-same, has-with-other}
+use Rattle.sets.proofs.Members.{has-pick, has-none, has-above, has-with-same, has-with-other}
 use Rattle.sets.proofs.Bounds.{with-lt}
 use Rattle.sets.proofs.Switches.{numbered-is}
 use Rattle.kinds.specs.Kinds.{applicationCount, kindCount, appCount, knownApplication, isIn, sessionProtection, opensTable, setOf, opens, controlled}
@@ -66,12 +66,7 @@ module _ (w v : ℕ) (rows columns : List ℕ) where
 -- ---- a number that is none of them stands for nothing
 where-numbered : (w n kinds t k : ℕ) → (numbered w n ≡ true → has kinds k ≡ has t (n - 1))
     → has (pick (numbered w n) kinds 0) k ≡ numbered w n && has t (n - 1)
-unfolding pick
-where-numbered w n kinds t k f = go (numbered w n) f
-  where
-    go : (x : Bool) → (x ≡ true → has kinds k ≡ has t (n - 1)) → has (pick x kinds 0) k ≡ x && has t (n - 1)
-    go true g = g refl
-    go false g = has-none k
+where-numbered w n kinds t k f = has-pick (numbered w n) kinds k ∙ and-where (numbered w n) f
 
 -- ---- applications
 openers-turned : (i k : ℕ) → has (getD opensSets i 0) k ≡ has (getD openersSets k 0) i

@@ -3,7 +3,7 @@
 -- agree. Assumes nothing.
 use Prim.Native.Nat.{ℕ, _-_}
 use mathlib.Core.Path.{_≡_}
-use mathlib.Core.Bool.{_&&_}
+use mathlib.Core.Bool.{Bool, _&&_}
 use mathlib.Core.List.{List, [], _∷_}
 use lib.ListN.{getD}
 use Rattle.choice.specs.Pick.{pick}
@@ -45,9 +45,12 @@ openers protects k = pick (has protects k) (with (openersAlways k) (sessionProte
 unfoldable pub controllers : ℕ → ℕ
 controllers k = placed (getD controllersTable k [])
 
--- by a table of such sets: the kinds that these members stand for
+-- by a table of such sets: whether these members stand for the nth kind, and the kinds that they stand for
+abbrev pub standFor : List ℕ → ℕ → ℕ → Bool
+standFor table members n = meets members (getD table (n - 1) 0)
+
 unfoldable pub kindsBy : List ℕ → ℕ → ℕ
-kindsBy table members = chosen kindCount (λ n. meets members (getD table (n - 1) 0)) kindCount
+kindsBy table members = chosen kindCount (standFor table members) kindCount
 
 -- "The two layouts are proved to agree for every application and kind and every protected set"
 abbrev pub LayoutsAgree : Type 0

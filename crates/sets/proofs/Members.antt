@@ -10,6 +10,7 @@ use native.Mathlib.Decide.{decLt, ℕ-discrete}
 use lib.Dec.{eqb, lit<}
 use lib.Pow.{shl-exact, shr-shr, shr-lt, pow-pos, pow-lt, pow-mono}
 use lib.Bits.{bitAnd, bitOr, bitXor, and-shr, or-shr, xor-shr, and-mod, or-mod, xor-mod, or-zero-r, or-lt}
+use Rattle.choice.specs.Pick.{pick}
 use Rattle.sets.specs.Set.{has, one, common, union, minus, with, without}
 
 -- `1 << k` loses nothing below the width
@@ -66,6 +67,12 @@ has-minus a b k = has-xor a (bitAnd a b) k ∙ ap (unlike (has a k)) (has-common
 pub has-none : (k : ℕ) → has 0 k ≡ false
 unfolding has
 has-none k = simp zero-div
+
+-- a set that a test picks, or else none, has its members where the test holds
+pub has-pick : (x : Bool) (a k : ℕ) → has (pick x a 0) k ≡ x && has a k
+unfolding pick
+has-pick true a k = refl
+has-pick false a k = has-none k
 
 same-digit : (x y : ℕ) → x < 2 → y < 2 → eqb x 1 ≡ eqb y 1 → x ≡ y
 same-digit = digits (λ (x y : ℕ). eqb x 1 ≡ eqb y 1 → x ≡ y) (λ e. refl) (λ e. cc) (λ e. cc) (λ e. refl)

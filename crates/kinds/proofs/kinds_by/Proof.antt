@@ -2,17 +2,16 @@
 use mathlib.Core.Path.{_≡_, refl}
 use Prim.Native.Nat.{_≤_, _-_}
 use native.Mathlib.Omega.{arith}
-use lib.ListN.{getD}
-use Rattle.sets.specs.Set.{meets, chosen}
+use Rattle.sets.specs.Set.{chosen}
 use borrow.Author.Needs.{needs}
 use Rattle.kinds.specs.Kinds.{kindCount}
-use Rattle.kinds.specs.ByKind.{kindsBy}
+use Rattle.kinds.specs.ByKind.{standFor, kindsBy}
 use Rattle.kinds.proofs.ByKind.{kinds-next}
 use Rattle.kinds.proofs.kinds_by.Statement.{statement}
 use Rattle.kinds.proofs.kinds_by.Tie as tie
 
 abbrev Inv-loop : tie.InvT-loop
-Inv-loop table members kinds₀ i₀ kinds i = (i ≤ kindCount) × (kinds ≡ chosen kindCount (λ n. meets members (getD table (n - 1) 0)) i)
+Inv-loop table members kinds₀ i₀ kinds i = (i ≤ kindCount) × (kinds ≡ chosen kindCount (standFor table members) i)
 
 abbrev μ-loop : tie.MeasureT-loop
 μ-loop table members kinds₀ i₀ kinds i = kindCount - i

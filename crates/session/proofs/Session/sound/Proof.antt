@@ -1,26 +1,20 @@
 -- `Session::sound` meets its contract: the rules are asked in groups, and where one fails the others are not. Assumes nothing.
 use mathlib.Core.Path.{_≡_, refl, sym, _∙_}
-use mathlib.Core.Bool.{Bool, true, false, _&&_}
+use mathlib.Core.Bool.{Bool, true, false, _&&_, and-comm}
 use Rattle.session.specs.declared.Session.{Session}
 use Rattle.session.specs.Session.{spareZero, forceSound, listedSound, openSound, helloSound, heldSound, goneSound, sound}
 use borrow.Author.Needs.{needs}
 use Rattle.session.proofs.Session.sound.Statement.{statement}
 use Rattle.session.proofs.Session.sound.Tie as tie
 
--- the rules of Open, Held and Gone stand together
-by-hello : (hello rest : Bool) → (hello && rest) ≡ (rest && hello)
-by-hello true true = refl
-by-hello true false = refl
-by-hello false true = refl
-by-hello false false = refl
-
+-- the rules of Open, Held and Gone stand together, before that of the Hello
 grouped : (spare force listed shut hello rest : Bool)
     → (spare && (force && (listed && (shut && (hello && rest))))) ≡ (spare && ((force && listed) && ((shut && rest) && hello)))
 grouped false force listed shut hello rest = refl
 grouped true false listed shut hello rest = refl
 grouped true true false shut hello rest = refl
 grouped true true true false hello rest = refl
-grouped true true true true hello rest = by-hello hello rest
+grouped true true true true hello rest = and-comm hello rest
 
 module _ (s : Session) where
   by-groups : sound s ≡ (spareZero s && ((forceSound s && listedSound s) && ((openSound s && (heldSound s && goneSound s)) && helloSound s)))
