@@ -1,26 +1,36 @@
 /*
- * bench.c - makes one call again and again, of the library or the second program
+ * bench.c - makes one call again and again, of the library or of what it is measured by
  *
  *   bench rows                  the rows: their names and how often to call
- *   bench check                 both give the same on every row
+ *   bench check                 all give the same on every row
  *   bench count WHO ROW CALLS   makes the calls, for someone else to count
  *   bench time ROW              nanoseconds for one call, of each WHO
  *
- * WHO is tacit, second or nothing: calls with the same parameters that do
- * nothing, for what the loop itself takes. Before each call the record is put
- * back as it was, and the session of the row that events are for; no other buffer
- * is touched.
+ * WHO is tacit, the library; plain, the same in C (plain.c); second, the second
+ * program; or nothing: calls with the same parameters that do nothing, for what the
+ * loop itself takes. Before each call the record is put back as it was, and the
+ * session of the row that events are for; no other buffer is touched.
  */
 #define _DEFAULT_SOURCE
 #include "calls.h"
 
 #include <time.h>
 
+DECLARE_CALLS(plain)
 DECLARE_CALLS(second)
 CALLS_THAT_DO_NOTHING(nothing)
 
-static const struct calls tacit = CALLS_OF(tacit), second = CALLS_OF(second),
-                          nothing = CALLS_OF(nothing);
+struct who {
+    const char *name;
+    struct calls calls;
+};
+
+enum { NOTHING, TACIT, PLAIN, SECOND, WHOS };
+
+static const struct who everyone[WHOS] = {[NOTHING] = {"nothing", CALLS_OF(nothing)},
+                                          [TACIT] = {"tacit", CALLS_OF(tacit)},
+                                          [PLAIN] = {"plain", CALLS_OF(plain)},
+                                          [SECOND] = {"second", CALLS_OF(second)}};
 
 /* ---------------------------------------------------------------------- */
 /* What is handed in                                                       */
@@ -46,22 +56,9 @@ static struct area thousand_tlvs, none;
 static uint8_t ready[TACIT_RECORD_LENGTH], opened[TACIT_RECORD_LENGTH];
 static uint8_t record[TACIT_RECORD_LENGTH], room[TACIT_MESSAGE_LENGTH];
 
-enum { LAST = TACIT_ROW_MOST - 1 }; /* the session of the row that events are for */
-
-static struct tacit_session sessions[TACIT_ROW_MOST], last_before;
+/* Of the row a part is lent. 4 may be used by two of its sessions, 7 by all. */
+static struct tacit_session sessions[TACIT_ROW_MOST];
 static struct tacit_limits limits;
-
-/*
- * A full row: 63 sessions use 4 and 7, and the last is fresh. 4 is at its limit,
- * and 7 has room for one more.
- */
-static void prepare_row(void)
-{
-    for (size_t i = 0; i < LAST; i++)
-        sessions[i] = tacit_load(opened, sizeof opened).session;
-    last_before = tacit_load(ready, sizeof ready).session;
-    limits = tacit_set_limit(tacit_no_limits(), 4, 2).limits;
-}
 
 /* A TAC of so many elements, whose TA-Ids are those from `first` to `last`, again and again. */
 static void prepare_tac(struct area *area, unsigned elements, unsigned first, unsigned last)
@@ -93,7 +90,7 @@ static void prepare_all(void)
     tacit_create(ready, sizeof ready, true, true, true, false, 0, 0x48, 1);
     memcpy(opened, ready, sizeof opened);
     tacit_initialization(opened, sizeof opened, six.octets, six.length);
-    prepare_row();
+    limits = tacit_set_limit(tacit_no_limits(), 4, 2).limits;
 }
 
 /* ---------------------------------------------------------------------- */
@@ -104,10 +101,13 @@ struct row {
     const char *name;
     const char *text;
     unsigned long times; /* calls that make a count */
-    const uint8_t *from; /* the record before each call */
+    const uint8_t *from; /* the record before each call, and the row's last session */
     const struct area *area;
-    struct given given; /* all but buffers and limits */
+    struct given given; /* all but octets, sessions and limits */
 };
+
+/* A row of so many sessions, and the call for the last of them. */
+#define IN_ROW(count) .lent[ROW].length = (count) * SESSION_OCTETS, .at = (count) - 1
 
 static const struct row rows[] = {
     {"read-frr", "read, FRR's parameters (15 octets)", 10000, ready, &frr, {.call = READ}},
@@ -160,31 +160,54 @@ static const struct row rows[] = {
      {.call = WHY_NOT, .kind = TACIT_KIND_GENERALIZED_PWID}},
     {"retry", "retry interval", 10000, opened, &none, {.call = RETRY_INTERVAL}},
     {"sound", "sound", 10000, opened, &none, {.call = SOUND}},
-    {"row-init", "Initialization in a row of 64, six capability TLVs", 1000, ready, &six,
-     {.call = ROW_EVENT, .at = LAST, .event = {TACIT_EVENT_INITIALIZATION, 0, 0, 0}}},
-    {"row-hello", "Hello in a row of 64, recorded", 1000, ready, &none,
-     {.call = ROW_EVENT, .at = LAST, .event = {TACIT_EVENT_HELLO, 0, 0, 5}}},
+    {"load", "load", 10000, opened, &none, {.call = LOAD}},
+    {"store", "store", 10000, opened, &none, {.call = STORE}},
+    {"row-init-1", "Initialization in a row of 1, six capability TLVs", 1000, ready, &six,
+     {.call = ROW_EVENT, IN_ROW(1), .event = {TACIT_EVENT_INITIALIZATION, 0, 0, 0}}},
+    {"row-init-16", "Initialization in a row of 16, six capability TLVs", 1000, ready, &six,
+     {.call = ROW_EVENT, IN_ROW(16), .event = {TACIT_EVENT_INITIALIZATION, 0, 0, 0}}},
+    {"row-init-64", "Initialization in a row of 64, six capability TLVs", 1000, ready, &six,
+     {.call = ROW_EVENT, IN_ROW(64), .event = {TACIT_EVENT_INITIALIZATION, 0, 0, 0}}},
+    {"row-hello-1", "Hello in a row of 1, recorded", 1000, ready, &none,
+     {.call = ROW_EVENT, IN_ROW(1), .event = {TACIT_EVENT_HELLO, 0, 0, 5}}},
+    {"row-hello-16", "Hello in a row of 16, recorded", 1000, ready, &none,
+     {.call = ROW_EVENT, IN_ROW(16), .event = {TACIT_EVENT_HELLO, 0, 0, 5}}},
+    {"row-hello-64", "Hello in a row of 64, recorded", 1000, ready, &none,
+     {.call = ROW_EVENT, IN_ROW(64), .event = {TACIT_EVENT_HELLO, 0, 0, 5}}},
+    {"row-closed-1", "connection closed in a row of 1", 1000, opened, &none,
+     {.call = ROW_EVENT, IN_ROW(1), .event = {TACIT_EVENT_CLOSED, 0, 0, 0}}},
+    {"row-closed-16", "connection closed in a row of 16", 1000, opened, &none,
+     {.call = ROW_EVENT, IN_ROW(16), .event = {TACIT_EVENT_CLOSED, 0, 0, 0}}},
+    {"row-closed-64", "connection closed in a row of 64", 1000, opened, &none,
+     {.call = ROW_EVENT, IN_ROW(64), .event = {TACIT_EVENT_CLOSED, 0, 0, 0}}},
+    {"row-count-64", "count in a row of 64", 1000, opened, &none,
+     {.call = ROW_COUNT, IN_ROW(64), .ta_id = 4}},
 };
 
 enum { ROWS = sizeof rows / sizeof *rows };
 
 static uint8_t said[SAID]; /* by the last call */
 
-/* An event changes no other session of the row, so that one alone is put back. */
-static void run(const struct calls *calls, const struct row *row, unsigned long times)
+/*
+ * Makes the calls. Of the row all sessions but the last are open; an event changes no
+ * other than that one, so that it alone is put back.
+ */
+static void run(const struct who *who, const struct row *row, unsigned long times)
 {
     void *const at[BUFFERS] = {
         [RECORD] = record, [AREA] = (void *)row->area->octets, [ROOM] = room, [ROW] = sessions};
     struct given given = row->given;
     given.limits = limits;
+    given.session = tacit_load(row->from, sizeof record).session;
     given.lent[RECORD].length = sizeof record;
     given.lent[AREA].length = row->area->length;
     given.lent[ROOM].length = sizeof room;
-    given.lent[ROW].length = TACIT_ROW_MOST * SESSION_OCTETS;
+    for (size_t i = 0; i < given.at; i++)
+        sessions[i] = tacit_load(opened, sizeof opened).session;
     while (times-- > 0) {
         memcpy(record, row->from, sizeof record);
-        sessions[LAST] = last_before;
-        make_call(calls, &given, at, said);
+        sessions[given.at] = given.session;
+        make_call(&who->calls, &given, at, said);
     }
 }
 
@@ -198,10 +221,10 @@ struct left {
     uint8_t row[TACIT_ROW_MOST * SESSION_OCTETS];
 };
 
-static void run_once(const struct calls *calls, const struct row *row, struct left *left)
+static void run_once(const struct who *who, const struct row *row, struct left *left)
 {
     memset(room, 0, sizeof room);
-    run(calls, row, 1);
+    run(who, row, 1);
     memcpy(left->said, said, sizeof said);
     memcpy(left->record, record, sizeof record);
     memcpy(left->room, room, sizeof room);
@@ -214,10 +237,13 @@ static int check(void)
     int wrong = 0;
     for (int i = 0; i < ROWS; i++) {
         struct left ours, theirs;
-        run_once(&tacit, &rows[i], &ours);
-        run_once(&second, &rows[i], &theirs);
-        bool refused = rows[i].given.call != SOUND && ours.said[0] != 0;
-        if (refused || memcmp(&ours, &theirs, sizeof ours) != 0) {
+        run_once(&everyone[TACIT], &rows[i], &ours);
+        bool good = rows[i].given.call == SOUND || ours.said[0] == TACIT_NOT_REFUSED;
+        for (int w = PLAIN; w < WHOS; w++) {
+            run_once(&everyone[w], &rows[i], &theirs);
+            good = good && memcmp(&ours, &theirs, sizeof ours) == 0;
+        }
+        if (!good) {
             fprintf(stderr, "bench: refused, or not the same: %s\n", rows[i].text);
             wrong = 1;
         }
@@ -232,22 +258,22 @@ static double now(void)
     return (double)time.tv_sec * 1e9 + (double)time.tv_nsec;
 }
 
-/* For each of the three the shortest of many short runs, which take turns. */
+/* For each the shortest of many short runs, which take turns. */
 static void print_times(const struct row *row)
 {
-    enum { WHO = 3, RUNS = 1000 };
-    const struct calls *const who[WHO] = {&nothing, &tacit, &second};
+    enum { RUNS = 1000 };
     const unsigned long times = row->times / 5;
-    double best[WHO] = {0};
+    double best[WHOS] = {0};
     for (int i = 0; i < RUNS; i++)
-        for (int w = 0; w < WHO; w++) {
+        for (int w = 0; w < WHOS; w++) {
             double start = now();
-            run(who[w], row, times);
+            run(&everyone[w], row, times);
             double each = (now() - start) / (double)times;
             if (i == 0 || each < best[w])
                 best[w] = each;
         }
-    printf("%.2f %.2f %.2f\n", best[0], best[1], best[2]);
+    for (int w = 0; w < WHOS; w++)
+        printf("%s %.2f\n", everyone[w].name, best[w]);
 }
 
 static const struct row *row_named(const char *name)
@@ -258,12 +284,12 @@ static const struct row *row_named(const char *name)
     return NULL;
 }
 
-static const struct calls *calls_of(const char *who)
+static const struct who *who_named(const char *name)
 {
-    return strcmp(who, "tacit") == 0     ? &tacit
-           : strcmp(who, "second") == 0  ? &second
-           : strcmp(who, "nothing") == 0 ? &nothing
-                                         : NULL;
+    for (int w = 0; w < WHOS; w++)
+        if (strcmp(name, everyone[w].name) == 0)
+            return &everyone[w];
+    return NULL;
 }
 
 int main(int count, char **words)
@@ -276,8 +302,8 @@ int main(int count, char **words)
     }
     if (count == 2 && strcmp(words[1], "check") == 0)
         return check();
-    if (count == 5 && strcmp(words[1], "count") == 0 && calls_of(words[2]) && row_named(words[3])) {
-        run(calls_of(words[2]), row_named(words[3]), strtoul(words[4], NULL, 10));
+    if (count == 5 && strcmp(words[1], "count") == 0 && who_named(words[2]) && row_named(words[3])) {
+        run(who_named(words[2]), row_named(words[3]), strtoul(words[4], NULL, 10));
         return 0;
     }
     if (count == 3 && strcmp(words[1], "time") == 0 && row_named(words[2])) {

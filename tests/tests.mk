@@ -22,7 +22,7 @@ fuzz: $(TACIT_LIB_DIR)/libtacit.a
 outside: $(TACIT_LIB_DIR)/libtacit.a
 	@TACIT_LIB_DIR="$(abspath $(TACIT_LIB_DIR))" tests/outside/run
 
-# Instructions for each call beside the second program; writes docs/BENCHMARK.md.
+# Instructions for each call beside plain C and the second program; writes docs/BENCHMARK.md.
 bench: $(TACIT_LIB_DIR)/libtacit.a
 	@TACIT_LIB_DIR="$(abspath $(TACIT_LIB_DIR))" bench/run
 

@@ -1,5 +1,6 @@
 /*
- * calls.c - makes calls of the library for a program that cannot link it
+ * calls.c - makes calls of the library, or of bench/plain.c, for a program that
+ * cannot link it
  *
  * Batches come in on standard input, and for each one a batch of answers goes
  * out on standard output; a batch is read to its end before its first call is
@@ -26,7 +27,13 @@
 
 enum { LENGTH = 4 }; /* octets of a length */
 
-static const struct calls library = CALLS_OF(tacit);
+#ifdef PLAIN
+DECLARE_CALLS(plain)
+static const struct calls asked = CALLS_OF(plain);
+#else
+static const struct calls asked = CALLS_OF(tacit);
+#endif
+
 static struct places places;
 
 /* ---------------------------------------------------------------------- */
@@ -126,11 +133,11 @@ static bool left_again(const uint8_t *left, const struct given *given)
 static uint8_t *serve(const struct given *given, uint8_t *answer)
 {
     uint8_t *said = answer + 1, *left = said + SAID;
-    uint8_t faults = make_watched(&library, given, &places, false, said);
+    uint8_t faults = make_watched(&asked, given, &places, false, said);
     uint8_t *end = put_left(left, given);
     if (faults == 0) {
         uint8_t again[SAID];
-        faults = make_watched(&library, given, &places, true, again);
+        faults = make_watched(&asked, given, &places, true, again);
         if (memcmp(said, again, SAID) != 0 || !left_again(left, given))
             faults |= UNSTEADY;
     }

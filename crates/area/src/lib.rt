@@ -88,6 +88,10 @@ fn by_type(head: usize, value: Span, mut r: Reading) -> Reading
     ensures { λ s. ⌜ s ≡ byType head value r ⌝ }
 {
     let t = head % TYPE_COUNT;
+    // None of ours lies outside the range: those are not compared with each of them.
+    if (t < PASSED_FIRST) | (PASSED_LAST < t) {
+        return pass_other(head, r);
+    }
     let len = value.len as usize;
     if t == TAC {
         let again = 0 < r.tac.len;
@@ -170,6 +174,16 @@ pub fn read_area(area: &[u8]) -> Reading
         found = t;
     }
     found
+}
+
+// The octets of a part that lies within the area, as the parts of a reading do.
+pub fn part_within(area: &[u8], s: Span) -> &[u8]
+    requires { ⌜ s .start + s .len ≤ length (now area) ⌝ }
+    ensures { λ r. ⌜ now r ≡ part (now (area .entry)) s ⌝ }
+{
+    let start = s.start as usize;
+    let end = start + s.len as usize;
+    &area[start..end]
 }
 
 // The octets of a part. Where the part does not lie within the area, those of them that do.

@@ -21,6 +21,7 @@ kinds-determined =
       is-in = by-equation _;
       switched = by-equation _;
       app-switched = by-equation _;
+      openers = by-equation _;
       opens-kind = by-equation _;
       opened = by-equation _;
       disables-kind = by-equation _;
@@ -42,6 +43,7 @@ area-determined =
     record {
       at16 = λ κs. by-law _ (λ a r s p. p .0);
       read-area = λ κs. by-equation _;
+      part-within = λ κs. by-law _ (λ a r s p. p);
       part-of = λ κs. by-law _ (λ a r s p. p);
     }
 
@@ -68,12 +70,16 @@ session-determined =
       permission = by-equation _;
       why-not = by-equation _;
       retry-interval = by-equation _;
+      initialization-unlimited = λ κs. by-equation _;
       initialization = λ κs. by-equation _;
-      used = by-equation _;
+      used-when-sound = by-equation _;
       capability = λ κs. by-equation _;
       local-change = by-equation _;
+      mismatch-when-sound = by-equation _;
       mismatch = by-equation _;
+      hello-when-sound = by-equation _;
       hello = by-equation _;
+      closed-when-sound = by-equation _;
       closed = by-equation _;
       unknown = by-equation _;
       refused = by-equation _;

@@ -13,6 +13,7 @@ use Rattle.kinds.proofs.TaId.is_known.Reads as kinds-is-known
 use Rattle.kinds.proofs.TaId.is_in.Reads as kinds-is-in
 use Rattle.kinds.proofs.TaId.switched.Reads as kinds-switched
 use Rattle.kinds.proofs.SacApp.switched.Reads as kinds-app-switched
+use Rattle.kinds.proofs.openers.Reads as kinds-openers
 use Rattle.kinds.proofs.opens_kind.Reads as kinds-opens-kind
 use Rattle.kinds.proofs.opened.Reads as kinds-opened
 use Rattle.kinds.proofs.disables_kind.Reads as kinds-disables-kind
@@ -24,6 +25,7 @@ use Rattle.octets.proofs.read16.Reads as octets-read16
 use Rattle.octets.proofs.read32.Reads as octets-read32
 use Rattle.area.proofs.at16.Reads as area-at16
 use Rattle.area.proofs.read_area.Reads as area-read-area
+use Rattle.area.proofs.part_within.Reads as area-part-within
 use Rattle.area.proofs.part_of.Reads as area-part-of
 use Rattle.lists.proofs.s_bit.Reads as lists-s-bit
 use Rattle.lists.proofs.tac_list.Reads as lists-tac-list
@@ -35,12 +37,16 @@ use Rattle.session.proofs.Session.permitted_kinds.Reads as session-permitted-ki
 use Rattle.session.proofs.Session.permission.Reads as session-permission
 use Rattle.session.proofs.Session.why_not.Reads as session-why-not
 use Rattle.session.proofs.Session.retry_interval.Reads as session-retry-interval
+use Rattle.session.proofs.Session.initialization_unlimited.Reads as session-initialization-unlimited
 use Rattle.session.proofs.Session.initialization.Reads as session-initialization
-use Rattle.session.proofs.Session.used.Reads as session-used
+use Rattle.session.proofs.Session.used_when_sound.Reads as session-used-when-sound
 use Rattle.session.proofs.Session.capability.Reads as session-capability
 use Rattle.session.proofs.Session.local_change.Reads as session-local-change
+use Rattle.session.proofs.Session.mismatch_when_sound.Reads as session-mismatch-when-sound
 use Rattle.session.proofs.Session.mismatch.Reads as session-mismatch
+use Rattle.session.proofs.Session.hello_when_sound.Reads as session-hello-when-sound
 use Rattle.session.proofs.Session.hello.Reads as session-hello
+use Rattle.session.proofs.Session.closed_when_sound.Reads as session-closed-when-sound
 use Rattle.session.proofs.Session.closed.Reads as session-closed
 use Rattle.session.proofs.Session.unknown.Reads as session-unknown
 use Rattle.session.proofs.Session.refused.Reads as session-refused
@@ -91,6 +97,7 @@ pub record KindsDetermined : Type 0 where
   pub is-in : Determined (kinds-is-in.Post tt)
   pub switched : Determined (kinds-switched.Post tt)
   pub app-switched : Determined (kinds-app-switched.Post tt)
+  pub openers : Determined (kinds-openers.Post tt)
   pub opens-kind : Determined (kinds-opens-kind.Post tt)
   pub opened : Determined (kinds-opened.Post tt)
   pub disables-kind : Determined (kinds-disables-kind.Post tt)
@@ -106,6 +113,7 @@ pub record OctetsDetermined : Type 0 where
 pub record AreaDetermined : Type 0 where
   pub at16 : (κs : _) → Determined (area-at16.Post κs)
   pub read-area : (κs : _) → Determined (area-read-area.Post κs)
+  pub part-within : (κs : _) → Determines (area-part-within.Post κs) (λ r s. now r)
   pub part-of : (κs : _) → Determines (area-part-of.Post κs) (λ r s. now r)
 
 pub record ListsDetermined : Type 0 where
@@ -123,12 +131,16 @@ pub record SessionDetermined : Type 0 where
   pub permission : Determined (session-permission.Post tt)
   pub why-not : Determined (session-why-not.Post tt)
   pub retry-interval : Determined (session-retry-interval.Post tt)
+  pub initialization-unlimited : (κs : _) → Determined (session-initialization-unlimited.Post κs)
   pub initialization : (κs : _) → Determined (session-initialization.Post κs)
-  pub used : Determined (session-used.Post tt)
+  pub used-when-sound : Determined (session-used-when-sound.Post tt)
   pub capability : (κs : _) → Determined (session-capability.Post κs)
   pub local-change : Determined (session-local-change.Post tt)
+  pub mismatch-when-sound : Determined (session-mismatch-when-sound.Post tt)
   pub mismatch : Determined (session-mismatch.Post tt)
+  pub hello-when-sound : Determined (session-hello-when-sound.Post tt)
   pub hello : Determined (session-hello.Post tt)
+  pub closed-when-sound : Determined (session-closed-when-sound.Post tt)
   pub closed : Determined (session-closed.Post tt)
   pub unknown : Determined (session-unknown.Post tt)
   pub refused : Determined (session-refused.Post tt)

@@ -24,6 +24,9 @@ const LENGTH_FIELD: u16 = LENGTH as u16 - 2;
 
 const KIND_FIELD: u16 = 1;
 
+// The two as one number, the length field in its low half.
+const HEAD: u32 = LENGTH_FIELD as u32 + 65536 * KIND_FIELD as u32;
+
 fn encoded(s: Session) -> [u8; LENGTH]
     ensures { λ r. ⌜ r ≡ encoded s ⌝ }
 {
@@ -74,8 +77,7 @@ fn headed(lent: &[u8]) -> bool
     requires { ⌜ recordLength ≤ length (now lent) ⌝ }
     ensures { λ r. ⌜ r ≡ headed (now (lent .entry)) ⌝ }
 {
-    let kind = (octets::read16(lent, 2) == KIND_FIELD) & (lent[13] == 0);
-    (octets::read16(lent, 0) == LENGTH_FIELD) & kind
+    (octets::read32(lent, 0) == HEAD) & (lent[13] == 0)
 }
 
 fn fields(lent: &[u8]) -> Session
@@ -116,13 +118,11 @@ pub fn decoded(lent: &[u8]) -> Session
 pub fn carry(lent: &mut [u8], after: After) -> Answer
     ensures { λ r. ⌜ Carried after (now (lent .entry)) r (now (lent .exit)) ⌝ }
 {
-    let answer = after.answer;
-    let session = after.session;
-    if answer.refusal == refusals::NOT_REFUSED {
-        stored_in(session, lent);
-        return answer;
+    if after.answer.refusal == refusals::NOT_REFUSED {
+        stored_in(after.session, lent);
+        return after.answer;
     }
-    answer
+    after.answer
 }
 
 // The session of a sound record; of any other, 10 and no session.

@@ -1,4 +1,9 @@
 pub mod Locals
 pub mod Walk
 pub mod EventCases
+pub mod Filled
 pub mod Tallied
+pub mod Adder
+pub mod Ripple
+pub mod Surveyed
+pub mod Found

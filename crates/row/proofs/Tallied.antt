@@ -1,16 +1,15 @@
--- What the pass over a row finds is what the row has: whether all are sound, and for each application how many use it, as far as a limit can ask. So an
--- event by what the pass found is the event of the row. Counts stop at 64 and no limit is over 64, so that fewer than its limit comes out the same.
+-- A tally of a row has what the row has: whether all are sound, and for each application how many use it, as far as a limit can ask. So an event by the
+-- tally is the event of the row. Counts stop at 64 and no limit is over 64, so that fewer than its limit comes out the same.
 -- By induction over the row and over the thirteen places. Assumes emptyTally.
-use Prim.Native.Nat.{ℕ, zero, suc, _+_, _-_, _<_, _≤_, zero-le}
+use Prim.Native.Nat.{ℕ, suc, _+_, _-_, _<_, _≤_, zero-le}
 use mathlib.Core.Path.{_≡_, refl, sym, ap, ap₂, _∙_}
 use mathlib.Core.Bool.{Bool, true, false, _&&_, false≢true}
 use mathlib.Core.List.{List, [], _∷_}
-use lib.ListN.{length, getD, set, length-set, getD-replicate}
-use lib.Seq.{getD-set-same, getD-set-other, set-getD}
+use lib.ListN.{length, getD, set, getD-replicate}
+use lib.Seq.{set-getD}
 use lib.Dec.{ltb, leb}
 use native.Mathlib.Decide.{decLt}
 use native.Mathlib.Nat.{le-refl, zero-add}
-use native.Mathlib.Numerals.{add-one}
 use native.Mathlib.Omega.{arith}
 use borrow.Author.Tests.{ltb-true, ltb-false, le-ltb, le-leb, leb-true, lt-leb}
 use Rattle.choice.specs.Pick.{pick}
@@ -38,36 +37,18 @@ use Rattle.row.specs.Limiting.{mostSessions, capped, limitOf}
 use Rattle.row.specs.Events.{eventOf}
 use Rattle.row.specs.Row.{sessionAt, uses, count, belowLimit, allSound, isRow, inRow, eventAt, outside, rowAfter, roomAfter, notCounted, countOf}
 use Rattle.row.specs.Counting.{emptyTally, more, counted, tally, tallied, isBelow, belowLimitBy, decidedBy, roomBy, countBy}
+use Rattle.row.proofs.Filled.{filled-length, filled-at}
 use Rattle.row.proofs.EventCases.{message-same}
 
 -- ---- one set of counts
-pub counted-more : (c : List ℕ) (a k : ℕ) → counted c a (k + 1) ≡ set (counted c a k) k (more (getD c k 0) (has a k))
-unfolding counted
-counted-more c a k = ap (counted c a) (add-one k)
-
 module _ (c : List ℕ) (a : ℕ) where
-  counted-length : (m : ℕ) → length (counted c a m) ≡ length c
+  counted-length : length (counted c a applicationCount) ≡ length c
   unfolding counted
-  counted-length zero = refl
-  counted-length (suc m) = length-set (counted c a m) m (more (getD c m 0) (has a m)) ∙ counted-length m
+  counted-length = filled-length (λ k. more (getD c k 0) (has a k)) (counted c a) (λ m. refl) applicationCount
 
-  -- not brought up to date yet
-  counted-later : (m k : ℕ) → m ≤ k → getD (counted c a m) k 0 ≡ getD c k 0
+  counted-at : (k : ℕ) → k < applicationCount → k < length c → getD (counted c a applicationCount) k 0 ≡ more (getD c k 0) (has a k)
   unfolding counted
-  counted-later zero k l = refl
-  counted-later (suc m) k l = getD-set-other (counted c a m) m k (more (getD c m 0) (has a m)) 0 (λ e. absurd (omega arith)) ∙ counted-later m k (omega arith)
-
-  counted-at : (m k : ℕ) → k < m → k < length c → getD (counted c a m) k 0 ≡ more (getD c k 0) (has a k)
-  unfolding counted
-  counted-at zero k l s = absurd (omega arith)
-  counted-at (suc m) k l s = go (decLt k m) (λ h. counted-at m k h s)
-    where
-      go : Dec (k < m) → (k < m → getD (counted c a m) k 0 ≡ more (getD c k 0) (has a k))
-          → getD (set (counted c a m) m (more (getD c m 0) (has a m))) k 0 ≡ more (getD c k 0) (has a k)
-      go (yes h) before = getD-set-other (counted c a m) m k (more (getD c m 0) (has a m)) 0 (λ e. absurd (omega arith)) ∙ before h
-      go (no d) before =
-          let e : k ≡ m = omega arith in
-          rw (sym e) (getD-set-same (counted c a k) k (more (getD c k 0) (has a k)) 0 (rw (counted-length k) s))
+  counted-at = filled-at (λ k. more (getD c k 0) (has a k)) (counted c a) (λ m. refl) applicationCount
 
 -- ---- counts that stop at mostSessions
 pub capped-is : (n : ℕ) → n ≤ mostSessions → capped n ≡ n
@@ -109,7 +90,7 @@ capped-ltb n m l = go (decLt n (mostSessions + 1))
     go (no d) = ap (λ (k : ℕ). ltb k m) (capped-most n (omega arith)) ∙ le-ltb mostSessions m l ∙ sym (le-ltb n m (omega arith))
 
 -- ---- the whole row
-tallied-sound : (t : Tally) (row : List Session) → tallied t row .sound ≡ t .sound && allSound row
+pub tallied-sound : (t : Tally) (row : List Session) → tallied t row .sound ≡ t .sound && allSound row
 unfolding tallied tally allSound
 tallied-sound t [] = go (t .sound)
   where
@@ -122,7 +103,7 @@ tallied-sound t (s ∷ row) = tallied-sound (tally t s) row ∙ go (t .sound) (s
     go true b c = refl
     go false b c = refl
 
-uses-has : (s : Session) (k : ℕ) → k < applicationCount → uses s (k + 1) ≡ has (used s) k
+pub uses-has : (s : Session) (k : ℕ) → k < applicationCount → uses s (k + 1) ≡ has (used s) k
 unfolding isIn
 uses-has s k l = let e : k + 1 - 1 ≡ k = omega arith in rw (is-numbered applicationCount (k + 1) (omega arith) (omega arith), e) refl
 
@@ -134,16 +115,21 @@ tallied-count t [] k l len small =
     sym (ap capped e ∙ capped-is (getD (t .counts) k 0) small)
 tallied-count t (s ∷ row) k l len small =
     let n = getD (t .counts) k 0 in
-    let one = counted-at (t .counts) (used s) applicationCount k l (rw len l) in
-    tallied-count (tally t s) row k l (counted-length (t .counts) (used s) applicationCount ∙ len) (rw one (more-le n (has (used s) k) small))
+    let one = counted-at (t .counts) (used s) k l (rw len l) in
+    tallied-count (tally t s) row k l (counted-length (t .counts) (used s) ∙ len) (rw one (more-le n (has (used s) k) small))
     ∙ ap (λ (m : ℕ). capped (m + count row (k + 1))) one ∙ more-capped n (count row (k + 1)) (has (used s) k) small
     ∙ ap (λ (b : Bool). capped (n + (pick b 1 0 + count row (k + 1)))) (sym (uses-has s k l))
+
+pub tallied-length : (t : Tally) (row : List Session) → length (tallied t row .counts) ≡ length (t .counts)
+unfolding tallied tally
+tallied-length t [] = refl
+tallied-length t (s ∷ row) = tallied-length (tally t s) row ∙ counted-length (t .counts) (used s)
 
 empty-yet : (k : ℕ) → k < applicationCount → getD (emptyTally .counts) k 0 ≡ 0
 empty-yet k l = getD-replicate applicationCount k 0 0 l
 
 -- how many use the application n, to mostSessions
-row-count : (row : List Session) (n : ℕ) → 1 ≤ n → n ≤ applicationCount → getD (tallied emptyTally row .counts) (n - 1) 0 ≡ capped (count row n)
+pub row-count : (row : List Session) (n : ℕ) → 1 ≤ n → n ≤ applicationCount → getD (tallied emptyTally row .counts) (n - 1) 0 ≡ capped (count row n)
 row-count row n least most =
     let start = empty-yet (n - 1) (omega arith) in
     let back : n - 1 + 1 ≡ n = omega arith in
@@ -162,7 +148,7 @@ unfolding count
 count-le [] n = le-refl 0
 count-le (s ∷ row) n = let h = count-le row n in by-test (λ (m : ℕ). m + count row n ≤ suc (length row)) (λ _. omega arith) (λ _. omega arith)
 
--- ---- by what the pass found
+-- ---- by the tally
 module _ (row : List Session) (at : ℕ) (e : EventNumbers) (l : Limits) (area : List ℕ) where
   pub event-in-row : (room : ℕ) → inRow row at ≡ true → decidedBy (sessionAt row at) (tallied emptyTally row) e l area room ≡ eventAt row at e l area room
   unfolding decidedBy eventAt

@@ -2,3 +2,4 @@ pub mod Limiting
 pub mod Events
 pub mod Row
 pub mod Counting
+pub mod Survey

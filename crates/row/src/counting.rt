@@ -1,37 +1,13 @@
-// One pass over a row, session by session.
+// What the pass over a row found, and what is asked of it.
 ghost use mathlib.Core.Path.{_≡_};
-ghost use Prim.Native.Nat.{_<_};
-ghost use Rattle.kinds.specs.Kinds.{applicationCount};
-ghost use Rattle.row.specs.Counting.{emptyTally, more, counted, tally, belowLimitBy, countBy};
+ghost use Rattle.row.specs.Counting.{emptyTally, belowLimitBy, countBy};
+ghost use Rattle.row.specs.Survey.{tallyBy};
 use crate::APPLICATIONS;
 use crate::Count;
 use crate::Limits;
+use crate::Survey;
 use crate::Tally;
 use kinds::TaId;
-use session::Session;
-
-// One more where it is used, to 64.
-fn more(n: u8, on: bool) -> u8
-    ensures { λ r. ⌜ r ≡ more n on ⌝ }
-{
-    if on & (n < Limits::HIGHEST) {
-        return n + 1;
-    }
-    n
-}
-
-// The thirteen counts brought up to date by a set of applications.
-fn counted(counts: [u8; APPLICATIONS], applications: u16) -> [u8; APPLICATIONS]
-    ensures { λ r. ⌜ r ≡ counted counts applications applicationCount ⌝ }
-{
-    let mut out = counts;
-    for k in 0..APPLICATIONS {
-        let n = counts[k];
-        let next = more(n, sets::has(applications, k as u16));
-        out[k] = next;
-    }
-    out
-}
 
 impl Tally {
     // Before the first session.
@@ -44,13 +20,18 @@ impl Tally {
         }
     }
 
-    // With one more session.
-    pub fn tally(self, s: Session) -> Tally
-        ensures { λ r. ⌜ r ≡ tally self s ⌝ }
+    // What a survey comes to: counts only where it counted.
+    pub fn tally(survey: Survey, counting: bool) -> Tally
+        ensures { λ r. ⌜ r ≡ tallyBy counting survey ⌝ }
     {
-        let before = self.counts;
-        let counts = counted(before, s.used());
-        let sound = self.sound & s.sound();
+        let sound = survey.sound;
+        if counting {
+            let planes = survey.planes;
+            let counts = crate::planes::weighed_each(planes);
+            return Tally { sound, counts };
+        }
+        let none = Tally::empty();
+        let counts = none.counts;
         Tally { sound, counts }
     }
 

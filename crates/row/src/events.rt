@@ -1,8 +1,10 @@
 // An event as numbers, and what it makes of a session.
 ghost use mathlib.Core.Path.{_≡_};
+ghost use mathlib.Core.Bool.{true};
+ghost use Rattle.session.specs.Session.{sound};
 ghost use Rattle.session.specs.Events.{step};
 ghost use Rattle.row.specs.Events.{eventOf, messageIn};
-ghost use Rattle.row.specs.Counting.{decidedBy};
+ghost use Rattle.row.specs.Counting.{belowLimitBy, decidedBy};
 use crate::EventNumbers;
 use crate::Limits;
 use crate::Tally;
@@ -12,7 +14,7 @@ use session::After;
 use session::Session;
 
 impl EventNumbers {
-    const INITIALIZATION: u32 = 0;
+    pub const INITIALIZATION: u32 = 0;
 
     const CAPABILITY: u32 = 1;
 
@@ -24,12 +26,13 @@ impl EventNumbers {
 
     const CLOSED: u32 = 5;
 
-    // What the event makes of the session, told the applications that are below their limit and how many octets of room there are.
-    fn apply(self, s: Session, below_limit: u16, area: &[u8], room: usize) -> After
-        ensures { λ r. ⌜ r ≡ step s (eventOf self «below_limit» (now (area .entry)) room) ⌝ }
+    // What the event makes of a sound session, told how many octets of room there are; only an Initialization asks which applications are below their limit.
+    fn apply(self, s: Session, tally: Tally, limits: Limits, area: &[u8], room: usize) -> After
+        requires { ⌜ sound s ≡ true ⌝ }
+        ensures { λ r. ⌜ r ≡ step s (eventOf self (belowLimitBy tally limits) (now (area .entry)) room) ⌝ }
     {
         if self.which == Self::INITIALIZATION {
-            return s.initialization(area, below_limit);
+            return s.initialization(area, tally.below_limit_by(limits));
         }
         if self.which == Self::CAPABILITY {
             return s.capability(area);
@@ -38,13 +41,13 @@ impl EventNumbers {
             return s.local_change(TaId(self.ta_id), self.on != 0, room);
         }
         if self.which == Self::MISMATCH {
-            return s.mismatch();
+            return s.mismatch_when_sound();
         }
         if self.which == Self::HELLO {
-            return s.hello(self.number);
+            return s.hello_when_sound(self.number);
         }
         if self.which == Self::CLOSED {
-            return s.closed();
+            return s.closed_when_sound();
         }
         s.unknown()
     }
@@ -74,8 +77,8 @@ impl EventNumbers {
     ) -> After
         ensures { λ r. ⌜ r ≡ decidedBy s tally self limits (now (area .entry)) room ⌝ }
     {
-        if tally.sound {
-            return self.apply(s, tally.below_limit_by(limits), area, room);
+        if tally.sound & s.sound() {
+            return self.apply(s, tally, limits, area, room);
         }
         s.refused(refusals::NOT_SOUND)
     }

@@ -1,10 +1,14 @@
 // A row of sessions: limits on how many use an application, and an event of one session among the others. All of it goes by value but for `tally_of`,
 // which is lent the row, as the C calls are.
 ghost use mathlib.Core.Path.{_≡_};
+ghost use Prim.Native.Nat.{_≤_};
 ghost use lib.ListN.{length};
 ghost use Rattle.refusals.specs.Refusals.{outsideRow};
 ghost use Rattle.row.specs.Row.{outside, notCounted};
-ghost use Rattle.row.specs.Counting.{emptyTally, tallied, decidedBy, roomBy};
+ghost use Rattle.row.specs.Counting.{decidedBy, roomBy};
+ghost use Rattle.row.specs.Limiting.{mostSessions};
+ghost use Rattle.row.specs.Survey.{surveyed};
+use crate::planes::PLANES;
 use kinds::TaId;
 use session::After;
 use session::Answer;
@@ -13,6 +17,7 @@ use session::Session;
 mod counting;
 mod events;
 mod limiting;
+mod planes;
 
 // How many applications there are: a limit and a count for each.
 const APPLICATIONS: usize = TaId::COUNT as usize;
@@ -55,6 +60,12 @@ pub struct Tally {
     pub counts: [u8; APPLICATIONS],
 }
 
+// What the pass keeps while it goes: whether all so far are sound, and how many use each application, in planes.
+pub struct Survey {
+    pub sound: bool,
+    pub planes: [u16; PLANES],
+}
+
 // The event of one session of the row, decided by what the pass over all of them found, and then what it writes.
 pub fn event_in(
     s: Session,
@@ -89,15 +100,16 @@ pub fn uncounted() -> Count
     }
 }
 
-// The pass over the row, which is the only loop over one.
-pub fn tally_of(row: &[Session]) -> Tally
-    ensures { λ r. ⌜ r ≡ tallied emptyTally (now (row .entry)) ⌝ }
+// The pass over the row, which is the only loop over one. It counts where it is asked to, and ends at the first session that is not sound.
+pub fn tally_of(row: &[Session], counting: bool) -> Tally
+    requires { ⌜ length (now row) ≤ mostSessions ⌝ }
+    ensures { λ r. ⌜ r ≡ surveyed counting (now (row .entry)) ⌝ }
 {
-    let mut tally = Tally::empty();
+    let mut survey = Survey::empty();
     let mut k = 0;
-    while k < row.len() {
-        tally = tally.tally(row[k]);
+    while (k < row.len()) & survey.sound {
+        survey = survey.with(row[k], counting);
         k += 1;
     }
-    tally
+    Tally::tally(survey, counting)
 }

@@ -1,7 +1,9 @@
 pub mod SoundMeans
 pub mod FlagsRaised
 pub mod Made
+pub mod Shapes
 pub mod Alike
 pub mod View
 pub mod Steps
+pub mod Opening
 pub mod PermittedMeans

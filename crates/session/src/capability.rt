@@ -1,5 +1,7 @@
 // Capability message.
 ghost use mathlib.Core.Path.{_≡_};
+ghost use lib.ListN.{length};
+ghost use Rattle.area.specs.Parts.{Inside};
 ghost use Rattle.session.specs.With.{withFlags, withListed};
 ghost use Rattle.session.specs.Events.{listAfter, flagsAfter, afterCapability, step, Capability};
 use crate::After;
@@ -29,13 +31,14 @@ impl Session {
 
     // With what the area's TAC and SAC say, before any mismatch is looked for.
     fn after_capability(mut self, area: &[u8], found: Reading) -> Session
+        requires { ⌜ Inside (length (now area)) found ⌝ }
         ensures { λ r. ⌜ r ≡ afterCapability self (now (area .entry)) found ⌝ }
     {
         let tac = found.tac;
         let sac = found.sac;
-        self.disabled = lists::sac_list(area::part_of(area, sac), false, self.disabled);
+        self.disabled = lists::sac_list(area::part_within(area, sac), false, self.disabled);
         if self.takes_tac(found) {
-            return self.after_tac(area::part_of(area, tac));
+            return self.after_tac(area::part_within(area, tac));
         }
         self
     }

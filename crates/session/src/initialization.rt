@@ -1,7 +1,10 @@
 // Initialization.
 ghost use mathlib.Core.Path.{_≡_};
 ghost use mathlib.Core.Bool.{true};
+ghost use lib.ListN.{length};
 ghost use Rattle.choice.specs.Pick.{pick};
+ghost use Rattle.kinds.specs.Kinds.{allApplications};
+ghost use Rattle.area.specs.Parts.{Inside};
 ghost use Rattle.lists.specs.Tac.{tacList};
 ghost use Rattle.session.specs.Events.{takesTac, afterInitialization, step, Initialization};
 use crate::After;
@@ -27,18 +30,44 @@ impl Session {
     }
 
     // Open by what the area holds, before any mismatch is looked for.
-    fn after_initialization(mut self, area: &[u8], found: Reading) -> Session
+    fn after_initialization(self, area: &[u8], found: Reading) -> Session
+        requires { ⌜ Inside (length (now area)) found ⌝ }
         ensures { λ r. ⌜ r ≡ afterInitialization self (now (area .entry)) found ⌝ }
     {
         let takes = self.takes_tac(found);
         let tac = found.tac;
         let sac = found.sac;
         let forced = crate::raised(self.flags, takes, Self::IN_FORCE);
-        self.state = Self::OPEN;
-        self.flags = crate::raised(forced, found.dynamic, Self::DYNAMIC);
-        self.disabled = lists::sac_list(area::part_of(area, sac), true, 0);
-        self.listed = list_of(takes, area::part_of(area, tac));
-        self
+        let flags = crate::raised(forced, found.dynamic, Self::DYNAMIC);
+        let disabled = lists::sac_list(area::part_within(area, sac), true, 0);
+        let listed = list_of(takes, area::part_within(area, tac));
+        Session {
+            state: Self::OPEN,
+            flags,
+            disabled,
+            enabled: self.enabled,
+            listed,
+            protects: self.protects,
+            hello: self.hello,
+            next: self.next,
+        }
+    }
+
+    // Initialization received (Ready only) where there is no row, and so no limit.
+    pub fn initialization_unlimited(self, area: &[u8]) -> After
+        ensures { λ r. ⌜ r ≡ step self (Initialization (now (area .entry)) allApplications) ⌝ }
+    {
+        if self.sound() {
+            if self.state == Self::READY {
+                let found = area::read_area(area);
+                if found.refusal == refusals::NOT_REFUSED {
+                    return self.enter(self.after_initialization(area, found));
+                }
+                return self.refused(found.refusal);
+            }
+            return self.refused(refusals::WRONG_STATE);
+        }
+        self.refused(refusals::NOT_SOUND)
     }
 
     // Initialization received (Ready only), told the applications that are below their limit.

@@ -2,6 +2,7 @@
 // them is a session, and every event asks it first.
 ghost use mathlib.Core.Path.{_≡_};
 ghost use Prim.Native.Nat.{_<_};
+ghost use Rattle.choice.specs.Pick.{pick};
 ghost use Rattle.sets.specs.Set.{minus};
 ghost use Rattle.session.specs.Session.{active, usesTac, inForce, dynamic, recorded, leavesGone, negotiated, nothingCommon};
 ghost use Rattle.session.specs.With.{heldToReady, noSession};
@@ -209,6 +210,16 @@ impl Session {
         }
         self.state
     }
+}
+
+// The one where a test holds, else the other.
+fn pick(holds: bool, one: u16, other: u16) -> u16
+    ensures { λ r. ⌜ r ≡ pick holds one other ⌝ }
+{
+    if holds {
+        return one;
+    }
+    other
 }
 
 // Flags with more of them, where `on` holds.

@@ -1,16 +1,16 @@
 // A session among others: what it uses.
 ghost use mathlib.Core.Path.{_≡_};
+ghost use mathlib.Core.Bool.{true};
+ghost use Rattle.session.specs.Session.{sound};
 ghost use Rattle.session.specs.Limits.{used};
 use crate::Session;
 
 impl Session {
-    // The applications that it uses, Open and in force.
-    pub fn used(self) -> u16
+    // The applications that a sound session uses: out of force nothing is listed.
+    pub fn used_when_sound(self) -> u16
+        requires { ⌜ sound self ≡ true ⌝ }
         ensures { λ r. ⌜ r ≡ used self ⌝ }
     {
-        if (self.state == Self::OPEN) & self.in_force() {
-            return self.negotiated();
-        }
-        0
+        self.negotiated()
     }
 }

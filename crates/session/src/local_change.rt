@@ -1,5 +1,7 @@
 // Local change of one application, on or off.
 ghost use mathlib.Core.Path.{_≡_};
+ghost use mathlib.Core.Bool.{false, _&&_};
+ghost use Rattle.session.specs.Session.{isOpen, usesTac, inForce, permitted};
 ghost use Rattle.session.specs.With.{withNextNumber};
 ghost use Rattle.session.specs.Decisions.{settled};
 ghost use Rattle.session.specs.Events.{writing, step, LocalChange};
@@ -16,8 +18,9 @@ impl Session {
         self
     }
 
-    // In Open with TAC used a change is written; any other is only set.
+    // In Open with TAC used a change is written; any other is only set, and moves no kind.
     fn writing(self, after: Session, room: usize) -> After
+        requires { ⌜ ((isOpen self && usesTac self) ≡ false → permitted after ≡ permitted self) × (inForce after ≡ false → permitted after ≡ permitted self) ⌝ }
         ensures { λ r. ⌜ r ≡ settled self (writing self after room) ⌝ }
     {
         if (self.state == Self::OPEN) & self.uses_tac() {
@@ -29,7 +32,7 @@ impl Session {
             }
             return self.refused(refusals::PEER_NOT_DYNAMIC);
         }
-        self.done(after)
+        self.unmoved(after, Self::DONE, 0)
     }
 
     // The change, told how many octets of room there are; what it writes is put there by `message::write`.

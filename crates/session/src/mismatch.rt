@@ -1,5 +1,7 @@
 // A mismatch, found by ourselves or told by the peer: one effect.
 ghost use mathlib.Core.Path.{_≡_};
+ghost use mathlib.Core.Bool.{true};
+ghost use Rattle.session.specs.Session.{sound};
 ghost use Rattle.session.specs.With.{outOfOpen, backToReady, mismatched};
 ghost use Rattle.session.specs.Events.{step, Mismatch};
 use crate::After;
@@ -38,15 +40,23 @@ impl Session {
         self.back_to_ready()
     }
 
-    // Mismatch notification received (Ready or Open).
+    // Mismatch notification received (Ready or Open) by a sound session.
+    pub fn mismatch_when_sound(self) -> After
+        requires { ⌜ sound self ≡ true ⌝ }
+        ensures { λ r. ⌜ r ≡ step self Mismatch ⌝ }
+    {
+        if (self.state == Self::READY) | (self.state == Self::OPEN) {
+            return self.as_mismatch(self);
+        }
+        self.refused(refusals::WRONG_STATE)
+    }
+
+    // Mismatch notification received.
     pub fn mismatch(self) -> After
         ensures { λ r. ⌜ r ≡ step self Mismatch ⌝ }
     {
         if self.sound() {
-            if (self.state == Self::READY) | (self.state == Self::OPEN) {
-                return self.as_mismatch(self);
-            }
-            return self.refused(refusals::WRONG_STATE);
+            return self.mismatch_when_sound();
         }
         self.refused(refusals::NOT_SOUND)
     }

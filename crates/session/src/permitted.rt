@@ -5,19 +5,16 @@ ghost use Rattle.session.specs.Session.{permitted};
 use crate::Session;
 
 impl Session {
-    // The permitted kinds of a session, sound or not.
+    // The permitted kinds of a session, sound or not. It picks and does not branch, and so is put in place where it is asked.
     pub(crate) fn permitted(self) -> u16
         ensures { λ r. ⌜ r ≡ permitted self ⌝ }
     {
-        if self.state == Self::OPEN {
-            let disabled = kinds::disables(self.disabled);
-            if self.in_force() {
-                return sets::minus(kinds::opened(self.negotiated(), self.protects), disabled);
-            }
-            return sets::minus(kinds::ALL_KINDS, disabled);
-        }
-        0
+        let opened = kinds::opened(self.negotiated(), self.protects);
+        let open = crate::pick(self.in_force(), opened, kinds::ALL_KINDS);
+        let permitted = sets::minus(open, kinds::disables(self.disabled));
+        crate::pick(self.state == Self::OPEN, permitted, 0)
     }
+
     // Whether one kind is among them; the other nine are not looked at.
     pub(crate) fn permits(self, kind: u16) -> bool
         ensures { λ r. ⌜ r ≡ has (permitted self) kind ⌝ }

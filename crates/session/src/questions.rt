@@ -1,6 +1,11 @@
 // The questions that change nothing. A session that is not sound is refused with 10.
 ghost use mathlib.Core.Path.{_≡_};
-ghost use Rattle.session.specs.Questions.{permittedKinds, permission, unopened, why, whyNot, retryInterval};
+ghost use mathlib.Core.Bool.{not};
+ghost use Rattle.choice.specs.Pick.{pick};
+ghost use Rattle.sets.specs.Set.{has};
+ghost use Rattle.kinds.specs.Kinds.{opened};
+ghost use Rattle.session.specs.Session.{negotiated};
+ghost use Rattle.session.specs.Questions.{whyPermitted, whyNotEnabled, whyNotListed, permittedKinds, permission, why, whyNot, retryInterval};
 use crate::Kinds;
 use crate::Permission;
 use crate::Reason;
@@ -65,14 +70,18 @@ impl Session {
         }
     }
 
-    // Negotiation is in force and none of these applications opens the kind.
-    fn unopened(self, applications: u16, kind: u16) -> bool
-        ensures { λ r. ⌜ r ≡ unopened self applications kind ⌝ }
+    // The reasons of negotiation in force: an application that opens the kind is both enabled and listed, or enabled, or neither.
+    fn why_in_force(self, kind: u16) -> u8
+        ensures { λ r. ⌜ r ≡ pick (not (has (opened (self .protects) (self .enabled)) kind)) whyNotEnabled (pick (not (has (opened (self .protects) (negotiated self)) kind)) whyNotListed whyPermitted) ⌝ }
     {
-        if self.in_force() {
-            return !kinds::opens_kind(applications, self.protects, kind);
+        let openers = kinds::openers(kind, self.protects);
+        if sets::meets(self.negotiated(), openers) {
+            return Self::PERMITTED;
         }
-        false
+        if sets::meets(self.enabled, openers) {
+            return Self::NOT_LISTED;
+        }
+        Self::NOT_ENABLED
     }
 
     // The first of the reasons that holds.
@@ -85,11 +94,8 @@ impl Session {
         if kinds::disables_kind(self.disabled, kind) {
             return Self::DISABLED_BY_PEER;
         }
-        if self.unopened(self.enabled, kind) {
-            return Self::NOT_ENABLED;
-        }
-        if self.unopened(self.negotiated(), kind) {
-            return Self::NOT_LISTED;
+        if self.in_force() {
+            return self.why_in_force(kind);
         }
         Self::PERMITTED
     }

@@ -1,7 +1,9 @@
 // What a sound session is, rule by rule.
 ghost use mathlib.Core.Path.{_≡_};
-ghost use mathlib.Core.Bool.{_&&_};
-ghost use Rattle.session.specs.Session.{spareZero, forceSound, listedSound, openSound, helloSound, heldSound, goneSound, sound};
+ghost use mathlib.Core.Bool.{false, not, _&&_};
+ghost use Rattle.choice.specs.Pick.{pick};
+ghost use Rattle.sets.specs.Set.{common, empty};
+ghost use Rattle.session.specs.Session.{usesTac, inForce, clearedOutOfOpen, negotiated, spareZero, helloSound, heldSound, goneSound, sound};
 use crate::Session;
 use kinds::SacApp;
 use kinds::TaId;
@@ -29,26 +31,24 @@ impl Session {
         false
     }
 
-    // In force only in Open with TAC used and a common application; listed empty unless in force.
+    // In Open, listed empty unless in force, and in force only with TAC used and a common application.
     fn lists_sound(self) -> bool
-        ensures { λ r. ⌜ r ≡ (forceSound self && listedSound self) ⌝ }
+        ensures { λ r. ⌜ r ≡ pick (inForce self) (usesTac self && not (empty (negotiated self))) (empty (self .listed)) ⌝ }
     {
         if self.in_force() {
-            let open = self.state == Self::OPEN;
-            return open & (self.uses_tac() & !(self.negotiated() == 0));
+            return self.uses_tac() & !(self.negotiated() == 0);
         }
         self.listed == 0
     }
 
-    // Disabled and dynamic 0 unless Open. Held only if active and not (initiating and drops). Gone only if active, initiating and drops, with no
-    // Hello recorded.
-    fn state_sound(self) -> bool
-        ensures { λ r. ⌜ r ≡ (openSound self && (heldSound self && goneSound self)) ⌝ }
+    // In no other state in force, listed, disabled or dynamic. Held only if active and not (initiating and drops). Gone only if active, initiating
+    // and drops, with no Hello recorded.
+    fn shut_sound(self) -> bool
+        ensures { λ r. ⌜ r ≡ pick (empty (common (self .flags) clearedOutOfOpen) && (empty (self .listed) && empty (self .disabled))) (heldSound self && goneSound self) false ⌝ }
     {
-        if self.state == Self::OPEN {
-            return true;
-        }
-        if (self.disabled == 0) & !self.dynamic() {
+        if (sets::common(self.flags as u16, Self::CLEARED_OUT_OF_OPEN) == 0)
+            & ((self.listed == 0) & (self.disabled == 0))
+        {
             if self.state == Self::HELD {
                 return self.active() & !self.leaves_gone();
             }
@@ -70,16 +70,16 @@ impl Session {
         self.hello == 0
     }
 
-    // All of them; once one fails the others are not asked.
+    // All of them, by the state; once one fails the others are not asked.
     pub fn sound(self) -> bool
         ensures { λ r. ⌜ r ≡ sound self ⌝ }
     {
         if self.spare_zero() {
-            if self.lists_sound() {
-                if self.state_sound() {
-                    return self.hello_sound();
+            if self.hello_sound() {
+                if self.state == Self::OPEN {
+                    return self.lists_sound();
                 }
-                return false;
+                return self.shut_sound();
             }
             return false;
         }

@@ -1,7 +1,7 @@
 -- A set inside another: what the operations keep, when a set is empty, and that the test `within` says it of the members. Each law goes by
 -- members. Assumes nothing.
 use mathlib.Core.Path.{_≡_, refl, sym, ap, _∙_}
-use mathlib.Core.Bool.{Bool, true, false, not, _&&_, _||_, true≢false}
+use mathlib.Core.Bool.{Bool, true, false, not, _&&_, _||_, true≢false, and-true, and-false}
 use Prim.Native.Nat.{ℕ, zero, suc, _+_, _^_, _<_}
 use native.Mathlib.Nat.{pow-suc, lt-of-lt-of-le}
 use native.Mathlib.Omega.{arith}
@@ -90,3 +90,15 @@ within-means a b h k q = go (has b k) refl
     go : (y : Bool) → has b k ≡ y → has b k ≡ true
     go true e = e
     go false e = absurd (true≢false (sym (has-minus a b k ∙ ap (λ (x : Bool). x && not (has b k)) q ∙ ap not e) ∙ empty-lacks (minus a b) k h))
+
+-- ---- what is left of a set without another
+pub nothing-left : (a b : ℕ) → Within a b → minus a b ≡ 0
+unfolding within
+nothing-left a b h = empty-is (minus a b) (within-holds a b h)
+
+pub all-left : (a : ℕ) → minus a 0 ≡ a
+all-left a = same-members (minus a 0) a (λ k. has-minus a 0 k ∙ ap (λ (b : Bool). has a k && not b) (has-none k) ∙ and-true (has a k))
+
+-- ---- with the empty set nothing is in common
+pub common-none : (a : ℕ) → common a 0 ≡ 0
+common-none a = no-member (common a 0) (λ k h. true≢false (sym h ∙ has-common a 0 k ∙ ap (λ (b : Bool). has a k && b) (has-none k) ∙ and-false (has a k)))

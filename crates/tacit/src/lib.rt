@@ -34,7 +34,7 @@ use session::Session;
 pub extern "C" fn tacit_initialization(lent: &mut [u8], area: &[u8]) -> Answer
     ensures { λ r. ⌜ Carried (step (decoded (now (lent .entry))) (Initialization (now (area .entry)) allApplications)) (now (lent .entry)) r (now (lent .exit)) ⌝ }
 {
-    let after = record::decoded(lent).initialization(area, TaId::ALL);
+    let after = record::decoded(lent).initialization_unlimited(area);
     record::carry(lent, after)
 }
 
@@ -208,7 +208,7 @@ pub extern "C" fn tacit_row_count(row: &[Session], ta_id: u32) -> Count
     ensures { λ r. ⌜ r ≡ countOf (now (row .entry)) «ta_id» ⌝ }
 {
     if (0 < row.len()) & (row.len() <= row::MOST_SESSIONS) {
-        let tally = row::tally_of(row);
+        let tally = row::tally_of(row, true);
         return tally.count_by(ta_id);
     }
     row::uncounted()
@@ -227,7 +227,7 @@ pub extern "C" fn tacit_row_event(
     ensures { λ r. ⌜ (r ≡ eventAt (now (row .entry)) at event limits (now (area .entry)) (length (now (room .entry))) .answer) × (now (row .exit) ≡ rowAfter (now (row .entry)) at event limits (now (area .entry)) (length (now (room .entry)))) × (now (room .exit) ≡ rowRoom (now (row .entry)) at event limits (now (area .entry)) (now (room .entry))) ⌝ }
 {
     if (at < row.len()) & (row.len() <= row::MOST_SESSIONS) {
-        let tally = row::tally_of(row);
+        let tally = row::tally_of(row, event.which == EventNumbers::INITIALIZATION);
         let after = row::event_in(row[at], tally, event, limits, area, room);
         row[at] = after.session;
         return after.answer;

@@ -1,7 +1,7 @@
 //! One call with all that it is given, and all that can be seen of it. What
 //! calls there are is said in `tests/calls/calls.txt`.
 
-use crate::library::{Library, Lost};
+use crate::side::{Lost, Side};
 use crate::value::{Given, Value, Way};
 use second::Fields;
 use std::panic::{self, AssertUnwindSafe};
@@ -78,7 +78,7 @@ impl Call {
         }
     }
 
-    /// About how many octets are sent to the library.
+    /// About how many octets are sent.
     pub fn octets(&self) -> usize {
         self.given().iter().map(|(_, given)| given.length()).sum()
     }
@@ -97,8 +97,8 @@ impl Call {
         }
     }
 
-    /// Do the two differ in anything?
-    pub fn differs(&self, library: &mut Library) -> bool {
-        self.ask_second() != library.ask(self)
+    /// Does this one differ from the second implementation in anything?
+    pub fn differs(&self, side: &mut Side) -> bool {
+        self.ask_second() != side.ask(self)
     }
 }

@@ -1,7 +1,8 @@
-//! Compares the library with the second implementation on generated calls.
+//! Compares the library, and the same in plain C, with the second implementation on
+//! generated calls.
 //!
 //! `compare [--calls N] [--seed S] [--differences D] [--as-met] [--trace]
-//! [--null]`
+//! [--null] [--without-plain]`
 //!
 //! The last line is `N passed, M failed`: N calls compared equal; M counts
 //! differences, and entries of the closing table that were never met or should
@@ -9,7 +10,6 @@
 
 mod areas;
 mod call;
-mod library;
 mod notes;
 mod numbers;
 mod reachable;
@@ -19,26 +19,31 @@ mod rows;
 mod scenes;
 mod show;
 mod shrink;
+mod side;
 mod tally;
 mod value;
 mod widths;
 mod wire;
 
 use call::{Call, Seen};
-use library::{Library, Lost};
 use scenes::Scenes;
+use side::{Lost, Side};
+use std::borrow::Cow;
+use std::io;
 use std::process::ExitCode;
 use tally::Tally;
 
 const USAGE: &str =
     "usage: compare [--calls N] [--seed S] [--differences D] [--as-met] [--trace] [--null]
+               [--without-plain]
 
   --calls N        calls to compare (200000)
   --seed S         seed of the generated calls (0x7AC17)
   --differences D  stop after so many differences (1)
   --as-met         show a difference as it was met, not as small as it goes
   --trace          print every call
-  --null           lend an empty area, record, row or room as a null pointer";
+  --null           lend an empty area, record, row or room as a null pointer
+  --without-plain  compare the library alone, without plain C";
 
 struct Options {
     calls: u64,
@@ -47,6 +52,7 @@ struct Options {
     as_met: bool,
     trace: bool,
     null: bool,
+    without_plain: bool,
 }
 
 fn options() -> Option<Options> {
@@ -57,6 +63,7 @@ fn options() -> Option<Options> {
         as_met: false,
         trace: false,
         null: false,
+        without_plain: false,
     };
     let mut words = std::env::args().skip(1);
     while let Some(word) = words.next() {
@@ -67,6 +74,7 @@ fn options() -> Option<Options> {
             "--as-met" => options.as_met = true,
             "--trace" => options.trace = true,
             "--null" => options.null = true,
+            "--without-plain" => options.without_plain = true,
             _ => return None,
         }
     }
@@ -80,13 +88,22 @@ fn number(text: &str) -> Option<u64> {
     }
 }
 
+/// All that is compared with the second implementation.
+fn sides(options: &Options) -> io::Result<Vec<Side>> {
+    let mut sides = vec![Side::library(options.null)?];
+    if !options.without_plain {
+        sides.push(Side::plain(options.null)?);
+    }
+    Ok(sides)
+}
+
 fn main() -> ExitCode {
     let Some(options) = options() else {
         eprintln!("{USAGE}");
         return ExitCode::from(2);
     };
-    let mut library = match Library::start(options.null) {
-        Ok(library) => library,
+    let mut sides = match sides(&options) {
+        Ok(sides) => sides,
         Err(error) => {
             eprintln!("compare: {error}");
             return ExitCode::from(2);
@@ -99,22 +116,24 @@ fn main() -> ExitCode {
     let mut left = options.calls;
     let mut run = Run::new(&options);
     let mut asked = Batch::default();
-    // While the library answers one batch, the next one is made.
+    // While the others answer one batch, the next one is made.
     loop {
         let next = Batch::make(&mut scenes, left, options.trace);
         left -= next.calls.len() as u64;
-        run.settle(&asked, &mut library);
+        run.settle(&asked, &mut sides);
         if run.is_over() || next.calls.is_empty() {
             break;
         }
-        library.send(&next.calls);
+        for side in &mut sides {
+            side.send(&next.calls);
+        }
         asked = next;
     }
     run.report()
 }
 
 /// Calls with what the second implementation makes of them. What comes next is
-/// decided by these answers, so the library's need not be waited for.
+/// decided by these answers, so no other need be waited for.
 #[derive(Default)]
 struct Batch {
     calls: Vec<Call>,
@@ -169,38 +188,62 @@ impl Run<'_> {
         self.failed >= self.options.differences
     }
 
-    /// Compares the library's answers to a batch that was sent.
-    fn settle(&mut self, batch: &Batch, library: &mut Library) {
+    /// Compares the answers of every side to a batch that was sent.
+    fn settle(&mut self, batch: &Batch, sides: &mut [Side]) {
         if batch.calls.is_empty() {
             return;
         }
-        let answers = library.receive(&batch.calls);
-        let lost_before = self.failed;
+        let received = sides.iter_mut().map(|side| side.receive(&batch.calls));
+        let answers: Vec<Result<Vec<Seen>, Lost>> = received.collect();
+        let failed_before = self.failed;
         for (index, (call, second)) in batch.calls.iter().zip(&batch.second).enumerate() {
             if self.is_over() {
                 return;
             }
             // Answers that did not come are asked for one by one.
-            let seen = match &answers {
-                Ok(seen) => seen[index].clone(),
-                Err(_) => library.ask(call),
-            };
+            let each = sides.iter_mut().zip(&answers);
+            let seen: Vec<Cow<Seen>> = each
+                .map(|(side, answers)| match answers {
+                    Ok(seen) => Cow::Borrowed(&seen[index]),
+                    Err(_) => Cow::Owned(side.ask(call)),
+                })
+                .collect();
             self.tally.count(call, second);
-            if seen == *second {
-                self.passed += 1;
-            } else {
-                self.failed += 1;
-                println!("\ndifference at call {}", self.passed + self.failed);
-                show(call, second, &seen, self.options.as_met, library);
+            match seen.iter().position(|seen| **seen != *second) {
+                None => self.passed += 1,
+                Some(differs) => {
+                    self.failed += 1;
+                    println!("\ndifference at call {}", self.passed + self.failed);
+                    if self.options.as_met {
+                        print(call, second, &seen, sides);
+                    } else {
+                        print_small(call, second, &seen, sides, differs);
+                    }
+                }
             }
         }
-        if let (Err(Lost(why)), true) = (&answers, self.failed == lost_before) {
-            self.failed += 1;
-            println!(
-                "\nno answers to the {} calls up to call {} ({why}), but to each of them alone",
-                batch.calls.len(),
-                self.passed
-            );
+        if self.failed == failed_before {
+            self.lost_in_a_batch(batch, sides, &answers);
+        }
+    }
+
+    /// Calls that were answered one by one and not in their batch.
+    fn lost_in_a_batch(
+        &mut self,
+        batch: &Batch,
+        sides: &[Side],
+        answers: &[Result<Vec<Seen>, Lost>],
+    ) {
+        for (side, answers) in sides.iter().zip(answers) {
+            if let Err(Lost(why)) = answers {
+                self.failed += 1;
+                println!(
+                    "\n{}: no answers to the {} calls up to call {} ({why}), but to each of them alone",
+                    side.name,
+                    batch.calls.len(),
+                    self.passed
+                );
+            }
         }
     }
 
@@ -217,22 +260,30 @@ impl Run<'_> {
     }
 }
 
-/// Prints a difference, as small as it can be made or as it was met.
-fn show(call: &Call, second: &Seen, seen: &Seen, as_met: bool, library: &mut Library) {
-    if as_met || !call.differs(library) {
-        if !as_met {
-            println!("not seen again when the call was repeated alone:");
-        }
-        print(call, second, seen);
-    } else {
-        let small = shrink::shrink(call.clone(), library);
-        let seen = library.ask(&small);
-        print(&small, &small.ask_second(), &seen);
+/// Prints a difference of one side, as small as it can be made.
+fn print_small(call: &Call, second: &Seen, seen: &[Cow<Seen>], sides: &mut [Side], differs: usize) {
+    if !call.differs(&mut sides[differs]) {
+        println!("not seen again when the call was repeated alone:");
+        print(call, second, seen, sides);
+        return;
     }
+    let small = shrink::shrink(call.clone(), &mut sides[differs]);
+    let asked = sides.iter_mut().map(|side| Cow::Owned(side.ask(&small)));
+    let seen: Vec<Cow<Seen>> = asked.collect();
+    print(&small, &small.ask_second(), &seen, sides);
 }
 
-fn print(call: &Call, second: &Seen, library: &Seen) {
+/// Prints a call and all answers to it; of equal ones the first.
+fn print(call: &Call, second: &Seen, seen: &[Cow<Seen>], sides: &[Side]) {
     print!("{call}");
+    let mut shown = vec![("second", second)];
     print!("{}", second.show("second", call));
-    println!("{}", library.show("library", call));
+    for (side, seen) in sides.iter().zip(seen) {
+        match shown.iter().find(|(_, before)| *before == &**seen) {
+            Some((name, _)) => println!("  {:<8} as {name}", side.name),
+            None => print!("{}", seen.show(side.name, call)),
+        }
+        shown.push((side.name, seen));
+    }
+    println!();
 }

@@ -1,8 +1,8 @@
-//! Makes a call that differs as small as it goes: fewer octets first, then
-//! fewer bits set.
+//! Makes a call at which one side differs as small as it goes: fewer octets first,
+//! then fewer bits set.
 
 use crate::call::Call;
-use crate::library::Library;
+use crate::side::Side;
 use crate::value::{runs, Way};
 use crate::{records, rows};
 use second::Fields;
@@ -24,13 +24,13 @@ const PASSES: [Pass; 7] = [
     |call, take| call.simpler(Way::Plainer, take),
 ];
 
-/// The smallest call found that still differs.
-pub fn shrink(mut call: Call, library: &mut Library) -> Call {
+/// The smallest call found at which this side still differs.
+pub fn shrink(mut call: Call, side: &mut Side) -> Call {
     let deadline = Instant::now() + PATIENCE;
     loop {
         let before = size(&call);
         for pass in PASSES {
-            while let Some(smaller) = smaller(&call, pass, deadline, library) {
+            while let Some(smaller) = smaller(&call, pass, deadline, side) {
                 call = smaller;
             }
         }
@@ -41,11 +41,11 @@ pub fn shrink(mut call: Call, library: &mut Library) -> Call {
 }
 
 /// A smaller call that still differs, if this pass has one.
-fn smaller(call: &Call, pass: Pass, deadline: Instant, library: &mut Library) -> Option<Call> {
+fn smaller(call: &Call, pass: Pass, deadline: Instant, side: &mut Side) -> Option<Call> {
     let limit = size(call);
     let mut found = None;
     pass(call, &mut |candidate| {
-        if size(&candidate) < limit && candidate.differs(library) {
+        if size(&candidate) < limit && candidate.differs(side) {
             found = Some(candidate);
         }
         found.is_some() || Instant::now() > deadline

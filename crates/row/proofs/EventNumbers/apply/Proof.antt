@@ -10,7 +10,7 @@ use Rattle.row.proofs.EventNumbers.apply.Tie as tie
 
 returns : tie.Need-returns
 unfolding eventOf
-returns c = c .initialization .ensures ∙ ap (step (c .before .before .before .before .args .s)) (sym (taken _ _ (eq-eqb _ _ (c .before .if1 .taken))))
+returns c = rw (← c .before .below-limit-by .ensures) (c .initialization .ensures ∙ ap (step (c .before .before .before .before .before .args .s)) (sym (taken _ _ (eq-eqb _ _ (c .before .before .if1 .taken)))))
 
 returns-2 : tie.Need-returns-2
 unfolding eventOf
@@ -22,15 +22,15 @@ returns-3 c = c .local-change .ensures ∙ ap (step (c .before .before .before .
 
 returns-4 : tie.Need-returns-4
 unfolding eventOf
-returns-4 c = c .mismatch .ensures ∙ ap (step (c .before .before .before .before .before .before .before .before .before .before .args .s)) (sym (left _ _ (ne-eqb _ _ (c .before .before .before .before .before .before .before .if1 .left)) ∙ left _ _ (ne-eqb _ _ (c .before .before .before .before .before .if2 .left)) ∙ left _ _ (ne-eqb _ _ (c .before .before .before .if3 .left)) ∙ taken _ _ (eq-eqb _ _ (c .before .if4 .taken))))
+returns-4 c = c .mismatch-when-sound .ensures ∙ ap (step (c .before .before .before .before .before .before .before .before .before .before .args .s)) (sym (left _ _ (ne-eqb _ _ (c .before .before .before .before .before .before .before .if1 .left)) ∙ left _ _ (ne-eqb _ _ (c .before .before .before .before .before .if2 .left)) ∙ left _ _ (ne-eqb _ _ (c .before .before .before .if3 .left)) ∙ taken _ _ (eq-eqb _ _ (c .before .if4 .taken))))
 
 returns-5 : tie.Need-returns-5
 unfolding eventOf
-returns-5 c = c .hello .ensures ∙ ap (step (c .before .before .before .before .before .before .before .before .before .before .before .before .args .s)) (sym (left _ _ (ne-eqb _ _ (c .before .before .before .before .before .before .before .before .before .if1 .left)) ∙ left _ _ (ne-eqb _ _ (c .before .before .before .before .before .before .before .if2 .left)) ∙ left _ _ (ne-eqb _ _ (c .before .before .before .before .before .if3 .left)) ∙ left _ _ (ne-eqb _ _ (c .before .before .before .if4 .left)) ∙ taken _ _ (eq-eqb _ _ (c .before .if5 .taken))))
+returns-5 c = c .hello-when-sound .ensures ∙ ap (step (c .before .before .before .before .before .before .before .before .before .before .before .before .args .s)) (sym (left _ _ (ne-eqb _ _ (c .before .before .before .before .before .before .before .before .before .if1 .left)) ∙ left _ _ (ne-eqb _ _ (c .before .before .before .before .before .before .before .if2 .left)) ∙ left _ _ (ne-eqb _ _ (c .before .before .before .before .before .if3 .left)) ∙ left _ _ (ne-eqb _ _ (c .before .before .before .if4 .left)) ∙ taken _ _ (eq-eqb _ _ (c .before .if5 .taken))))
 
 returns-6 : tie.Need-returns-6
 unfolding eventOf
-returns-6 c = c .closed .ensures ∙ ap (step (c .before .before .before .before .before .before .before .before .before .before .before .before .before .before .args .s)) (sym (left _ _ (ne-eqb _ _ (c .before .before .before .before .before .before .before .before .before .before .before .if1 .left)) ∙ left _ _ (ne-eqb _ _ (c .before .before .before .before .before .before .before .before .before .if2 .left)) ∙ left _ _ (ne-eqb _ _ (c .before .before .before .before .before .before .before .if3 .left)) ∙ left _ _ (ne-eqb _ _ (c .before .before .before .before .before .if4 .left)) ∙ left _ _ (ne-eqb _ _ (c .before .before .before .if5 .left)) ∙ taken _ _ (eq-eqb _ _ (c .before .if6 .taken))))
+returns-6 c = c .closed-when-sound .ensures ∙ ap (step (c .before .before .before .before .before .before .before .before .before .before .before .before .before .before .args .s)) (sym (left _ _ (ne-eqb _ _ (c .before .before .before .before .before .before .before .before .before .before .before .if1 .left)) ∙ left _ _ (ne-eqb _ _ (c .before .before .before .before .before .before .before .before .before .if2 .left)) ∙ left _ _ (ne-eqb _ _ (c .before .before .before .before .before .before .before .if3 .left)) ∙ left _ _ (ne-eqb _ _ (c .before .before .before .before .before .if4 .left)) ∙ left _ _ (ne-eqb _ _ (c .before .before .before .if5 .left)) ∙ taken _ _ (eq-eqb _ _ (c .before .if6 .taken))))
 
 returns-7 : tie.Need-returns-7
 unfolding eventOf
@@ -40,7 +40,7 @@ pub apply-spec : {M : Type 1} → statement M
 apply-spec =
     tie.close
     (tie.spec
-    (λ c κs. search needs) returns
+    (λ c κs. search needs) (λ c κs. search needs) returns
     (λ c κs. search needs) returns-2
     (λ c κs. search needs) returns-3
     (λ c κs. search needs) returns-4

@@ -2,11 +2,15 @@
 use mathlib.Core.Path.{sym, _∙_}
 use borrow.Author.Tests.{eq-eqb, ne-eqb}
 use Rattle.choice.proofs.Branch.{pick-true, pick-false}
+use Rattle.area.proofs.Parts.{parts-inside}
 use Rattle.session.specs.Decisions.{settled}
 use Rattle.session.specs.Events.{onCapability}
 use borrow.Author.Needs.{needs}
 use Rattle.session.proofs.Session.capability.Statement.{statement}
 use Rattle.session.proofs.Session.capability.Tie as tie
+
+after-capability-requires : tie.Need-after-capability-requires
+after-capability-requires c κs = rw (c .before .before .read-area .ensures) (parts-inside (c .before .before .before .before .before .before .before .before .args .area .now) .0)
 
 returns : tie.Need-returns
 unfolding settled onCapability
@@ -28,7 +32,7 @@ pub capability-spec : {M : Type 1} → statement M
 capability-spec =
     tie.close
     (tie.spec
-    (λ c κs. search needs) (λ c κs. search needs) (λ c κs. search needs) (λ c κs. search needs) returns
+    (λ c κs. search needs) (λ c κs. search needs) after-capability-requires (λ c κs. search needs) returns
     (λ c κs. search needs) returns-2
     (λ c κs. search needs) returns-3
     (λ c κs. search needs) returns-4)

@@ -20,15 +20,18 @@ returns-3 : tie.Need-returns-3
 unfolding settled writing
 returns-3 c = simp (simp (c .before .before .before .before .uses-tac .ensures) at (c .before .before .before .if1 .taken), sym (c .before .before .dynamic .ensures) ∙ c .before .if2 .left, c .refused2 .ensures, pick-true, pick-false)
 
+unmoved-requires : tie.Need-unmoved-requires
+unmoved-requires c κs = c .before .before .before .pre .0 (simp (c .before .uses-tac .ensures) at (c .if1 .left))
+
 returns-4 : tie.Need-returns-4
 unfolding settled writing
-returns-4 c = simp (simp (c .before .before .uses-tac .ensures) at (c .before .if1 .left), c .done .ensures, pick-false)
+returns-4 c = simp (simp (c .before .before .uses-tac .ensures) at (c .before .if1 .left), c .unmoved .ensures, pick-false)
 
 pub writing-spec : {M : Type 1} → statement M
 writing-spec =
     tie.close
     (tie.spec
-    (λ c κs. search needs) (λ c κs. search needs) (λ c. search needs) (λ c κs. search needs) returns
+    (λ c κs. search needs) (λ c κs. search needs) (λ c. search needs) (λ c κs. c .before .before .before .before .before .before .pre .1) returns
     (λ c κs. search needs) returns-2
     (λ c κs. search needs) returns-3
-    (λ c κs. search needs) returns-4)
+    unmoved-requires returns-4)

@@ -1,6 +1,7 @@
-//! The library, by way of a program that can link it (`calls.c`). Calls go there
-//! in batches; the program checks for itself that nothing is written outside the
-//! buffers that it lends.
+//! What is compared with the second implementation, by way of a program that can
+//! link it (`calls.c`): the library, and the same in plain C. Calls go there in
+//! batches; the program checks for itself that nothing is written outside the buffers
+//! that it lends.
 
 use crate::call::{Call, Left, Said, Seen};
 use crate::wire;
@@ -15,7 +16,9 @@ use std::time::Duration;
 const PATIENCE: Duration = Duration::from_secs(20);
 const PATIENCE_FOR_ONE: Duration = Duration::from_secs(3);
 
-pub struct Library {
+pub struct Side {
+    /// What it is called where its answers are shown.
+    pub name: &'static str,
     program: PathBuf,
     empty_is_null: bool,
     running: Running,
@@ -33,20 +36,33 @@ struct Running {
 #[derive(Clone, Debug, PartialEq, Eq)]
 pub struct Lost(pub String);
 
-impl Library {
-    /// Starts the program: the one that TACIT_CALLS names, or the one that the
-    /// script `build` has made.
-    pub fn start(empty_is_null: bool) -> io::Result<Library> {
-        let program = match std::env::var_os("TACIT_CALLS") {
-            Some(named) => named.into(),
-            None => PathBuf::from(env!("CARGO_MANIFEST_DIR")).join("../../target/compare/calls"),
-        };
+/// A program that the script `build` has made.
+fn made(name: &str) -> PathBuf {
+    let made = PathBuf::from(env!("CARGO_MANIFEST_DIR")).join("../../target/compare");
+    made.join(name)
+}
+
+impl Side {
+    /// The library, by the program that TACIT_CALLS names, if it names one.
+    pub fn library(empty_is_null: bool) -> io::Result<Side> {
+        let named = std::env::var_os("TACIT_CALLS").map(PathBuf::from);
+        let program = named.unwrap_or_else(|| made("calls"));
+        Side::start("library", program, empty_is_null)
+    }
+
+    /// The same in plain C.
+    pub fn plain(empty_is_null: bool) -> io::Result<Side> {
+        Side::start("plain", made("plain"), empty_is_null)
+    }
+
+    fn start(name: &'static str, program: PathBuf, empty_is_null: bool) -> io::Result<Side> {
         if !program.is_file() {
             let why = format!("no {}: run tests/compare/build", program.display());
             return Err(io::Error::new(io::ErrorKind::NotFound, why));
         }
         let running = Running::start(&program)?;
-        Ok(Library {
+        Ok(Side {
+            name,
             program,
             empty_is_null,
             running,
@@ -135,7 +151,7 @@ impl Running {
     }
 }
 
-impl Drop for Library {
+impl Drop for Side {
     fn drop(&mut self) {
         self.running.stop();
     }

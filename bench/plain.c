@@ -1,0 +1,887 @@
+/*
+ * plain.c - the calls of the library in plain C, without a proof
+ *
+ * What a call takes is measured by this one (bench), and the comparison has it for a
+ * third opinion (tests/compare). The rules are those of document 01, of its request
+ * L1 and of tacit.h; no code is shared with the library or the second program.
+ */
+#include "calls.h"
+
+DECLARE_CALLS(plain)
+
+/* ---------------------------------------------------------------------- */
+/* Numbers in octets                                                       */
+/* ---------------------------------------------------------------------- */
+
+/* In areas and messages the most significant octet stands first. */
+static inline unsigned get_be16(const uint8_t *from)
+{
+    return (unsigned)from[0] << 8 | from[1];
+}
+
+static inline void put_be16(uint8_t *to, unsigned number)
+{
+    to[0] = (uint8_t)(number >> 8);
+    to[1] = (uint8_t)number;
+}
+
+static inline void put_be32(uint8_t *to, uint32_t number)
+{
+    to[0] = (uint8_t)(number >> 24);
+    to[1] = (uint8_t)(number >> 16);
+    to[2] = (uint8_t)(number >> 8);
+    to[3] = (uint8_t)number;
+}
+
+/* ---------------------------------------------------------------------- */
+/* Applications and kinds                                                  */
+/* ---------------------------------------------------------------------- */
+
+enum { KINDS = 10, SAC_APPS = 4, ALL_SAC_APPS = 0x0F };
+
+static inline bool is_application(uint32_t ta_id)
+{
+    return ta_id >= 1 && ta_id <= TACIT_APPLICATIONS;
+}
+
+/* The applications that open a kind. */
+enum {
+    FOR_IPV4 = TACIT_APP_SET(TACIT_APP_LDPV4_TUNNELING) |
+               TACIT_APP_SET(TACIT_APP_LDPV4_REMOTE_LFA) |
+               TACIT_APP_SET(TACIT_APP_IPV4_INTRA_AREA),
+    FOR_IPV6 = TACIT_APP_SET(TACIT_APP_LDPV6_TUNNELING) |
+               TACIT_APP_SET(TACIT_APP_LDPV6_REMOTE_LFA) |
+               TACIT_APP_SET(TACIT_APP_IPV6_INTRA_AREA),
+    FOR_MLDP = TACIT_APP_SET(TACIT_APP_MLDP_TUNNELING) |
+               TACIT_APP_SET(TACIT_APP_MLDP_NODE_PROTECTION),
+    FOR_PWID = TACIT_APP_SET(TACIT_APP_FEC128_PW),
+    FOR_GENERALIZED_PWID = TACIT_APP_SET(TACIT_APP_FEC129_PW),
+    FOR_P2MP_PW = TACIT_APP_SET(TACIT_APP_P2MP_PW),
+    FOR_PROTECTED = TACIT_APP_SET(TACIT_APP_SESSION_PROTECTION)
+};
+
+/* The same by kind, without Session Protection. */
+static const uint16_t applications_for[KINDS] = {
+    [TACIT_KIND_IPV4_PREFIX] = FOR_IPV4,
+    [TACIT_KIND_IPV6_PREFIX] = FOR_IPV6,
+    [TACIT_KIND_P2MP] = FOR_MLDP,
+    [TACIT_KIND_MP2MP_UP] = FOR_MLDP,
+    [TACIT_KIND_MP2MP_DOWN] = FOR_MLDP,
+    [TACIT_KIND_HSMP_DOWNSTREAM] = FOR_MLDP,
+    [TACIT_KIND_HSMP_UPSTREAM] = FOR_MLDP,
+    [TACIT_KIND_PWID] = FOR_PWID,
+    [TACIT_KIND_GENERALIZED_PWID] = FOR_GENERALIZED_PWID,
+    [TACIT_KIND_P2MP_PW_UPSTREAM] = FOR_P2MP_PW,
+};
+
+/* The kinds that at least one of these applications opens. */
+static inline unsigned opened_by(unsigned applications, unsigned protects)
+{
+    unsigned kinds = 0;
+    if (applications & FOR_IPV4)
+        kinds |= TACIT_KIND_SET(TACIT_KIND_IPV4_PREFIX);
+    if (applications & FOR_IPV6)
+        kinds |= TACIT_KIND_SET(TACIT_KIND_IPV6_PREFIX);
+    if (applications & FOR_MLDP)
+        kinds |= 0x007C; /* 2 to 6 */
+    if (applications & FOR_PWID)
+        kinds |= TACIT_KIND_SET(TACIT_KIND_PWID);
+    if (applications & FOR_GENERALIZED_PWID)
+        kinds |= TACIT_KIND_SET(TACIT_KIND_GENERALIZED_PWID);
+    if (applications & FOR_P2MP_PW)
+        kinds |= TACIT_KIND_SET(TACIT_KIND_P2MP_PW_UPSTREAM);
+    if (applications & FOR_PROTECTED)
+        kinds |= protects;
+    return kinds;
+}
+
+/* Does one of these applications open this kind? */
+static inline bool opens(unsigned applications, unsigned kind, unsigned protects)
+{
+    return (applications & applications_for[kind]) != 0 ||
+           ((applications & FOR_PROTECTED) != 0 && (protects >> kind & 1) != 0);
+}
+
+/* The kinds that these SAC Apps control: 0 and 1 for 1 and 2, 7 and 8 for 3 and 4. */
+static inline unsigned controlled_by(unsigned apps)
+{
+    return (apps & 0x03) | (apps & 0x0C) << 5;
+}
+
+/* ---------------------------------------------------------------------- */
+/* Sessions                                                                */
+/* ---------------------------------------------------------------------- */
+
+/* Flags that go together. */
+enum {
+    GOES_ON_MISMATCH = TACIT_FLAG_INITIATING | TACIT_FLAG_ACTIVE | TACIT_FLAG_DROPS,
+    IN_OPEN_ALONE = TACIT_FLAG_IN_FORCE | TACIT_FLAG_PEER_DYNAMIC,
+    SPARE = 0x80
+};
+
+/* The state that a mismatch leads to. */
+static inline uint8_t state_after_mismatch(unsigned flags)
+{
+    if ((flags & GOES_ON_MISMATCH) == GOES_ON_MISMATCH)
+        return TACIT_GONE;
+    return flags & TACIT_FLAG_ACTIVE ? TACIT_HELD : TACIT_READY;
+}
+
+static inline bool has_spare_bits(const struct tacit_session *session)
+{
+    return (session->flags & SPARE) != 0 || (session->disabled & ~ALL_SAC_APPS) != 0 ||
+           ((session->enabled | session->listed) & ~TACIT_ALL_APPS) != 0 ||
+           (session->protects & ~TACIT_ALL_KINDS) != 0;
+}
+
+static inline bool is_sound(const struct tacit_session *session)
+{
+    unsigned flags = session->flags;
+    if (has_spare_bits(session))
+        return false;
+    if (session->hello != 0 && !(flags & TACIT_FLAG_HELLO_RECORDED))
+        return false;
+    if (session->state == TACIT_OPEN) {
+        if (!(flags & TACIT_FLAG_IN_FORCE))
+            return session->listed == 0;
+        return (flags & TACIT_FLAG_USES_TAC) && (session->enabled & session->listed);
+    }
+    if ((flags & IN_OPEN_ALONE) || session->listed != 0 || session->disabled != 0)
+        return false;
+    if (session->state == TACIT_READY)
+        return true;
+    if (session->state == TACIT_GONE && (flags & TACIT_FLAG_HELLO_RECORDED))
+        return false;
+    return session->state == state_after_mismatch(flags);
+}
+
+/* The applications that a sound session uses: nothing is listed unless it is in force. */
+static inline unsigned used(const struct tacit_session *session)
+{
+    return session->enabled & session->listed;
+}
+
+static inline unsigned permitted_kinds(const struct tacit_session *session)
+{
+    if (session->state != TACIT_OPEN)
+        return 0;
+    unsigned kinds = TACIT_ALL_KINDS;
+    if (session->flags & TACIT_FLAG_IN_FORCE)
+        kinds = opened_by(used(session), session->protects);
+    return kinds & ~controlled_by(session->disabled);
+}
+
+static inline uint8_t why_not(const struct tacit_session *session, unsigned kind)
+{
+    if (session->state != TACIT_OPEN)
+        return TACIT_NOT_OPEN;
+    if (controlled_by(session->disabled) >> kind & 1)
+        return TACIT_DISABLED_BY_PEER;
+    if (!(session->flags & TACIT_FLAG_IN_FORCE) || opens(used(session), kind, session->protects))
+        return TACIT_PERMITTED;
+    return opens(session->enabled, kind, session->protects) ? TACIT_NOT_LISTED : TACIT_NOT_ENABLED;
+}
+
+static inline uint16_t retry_interval(const struct tacit_session *session)
+{
+    return session->state == TACIT_HELD ? 65535 : 0;
+}
+
+/* ---------------------------------------------------------------------- */
+/* The record                                                              */
+/* ---------------------------------------------------------------------- */
+
+/* Its numbers have the least significant octet first, as this machine's have. */
+_Static_assert(__BYTE_ORDER__ == __ORDER_LITTLE_ENDIAN__, "numbers are copied");
+
+/* How many octets follow these two, and the kind of record. */
+static const uint8_t record_head[4] = {20, 0, 1, 0};
+
+/* Reads a record; false if it is not sound. */
+static inline bool read_record(struct tacit_session *session, const uint8_t *record,
+                               size_t record_len)
+{
+    if (record_len != TACIT_RECORD_LENGTH)
+        return false;
+    if (memcmp(record, record_head, sizeof record_head) != 0 || record[13] != 0)
+        return false;
+    session->state = record[4];
+    session->flags = record[5];
+    memcpy(&session->enabled, record + 6, 2);
+    memcpy(&session->listed, record + 8, 2);
+    memcpy(&session->protects, record + 10, 2);
+    session->disabled = record[12];
+    memcpy(&session->hello, record + 14, 4);
+    memcpy(&session->next, record + 18, 4);
+    return is_sound(session);
+}
+
+/* Writes what an event may change. */
+static inline void update_record(uint8_t *record, const struct tacit_session *session)
+{
+    record[4] = session->state;
+    record[5] = session->flags;
+    memcpy(record + 6, &session->enabled, 2);
+    memcpy(record + 8, &session->listed, 2);
+    record[12] = session->disabled;
+    memcpy(record + 14, &session->hello, 4);
+    memcpy(record + 18, &session->next, 4);
+}
+
+static inline void write_record(uint8_t *record, const struct tacit_session *session)
+{
+    memcpy(record, record_head, sizeof record_head);
+    memcpy(record + 10, &session->protects, 2);
+    record[13] = 0;
+    update_record(record, session);
+}
+
+/* ---------------------------------------------------------------------- */
+/* Areas                                                                   */
+/* ---------------------------------------------------------------------- */
+
+enum { HEAD = 4 }; /* octets of a TLV before its value */
+enum { TYPE_TAC = 0x050F, TYPE_SAC = 0x050D, TYPE_DYNAMIC = 0x0506 };
+
+/* Each of these is for one TLV, and hands back the refusal. */
+static inline uint8_t add_tac(struct tacit_reading *reading, size_t start, size_t length)
+{
+    if (reading->tac.length != 0)
+        return TACIT_REFUSED_REPEATED;
+    if (length % 4 != 1)
+        return TACIT_REFUSED_LENGTH;
+    reading->tac = (struct tacit_part){(uint16_t)start, (uint16_t)length};
+    return TACIT_NOT_REFUSED;
+}
+
+static inline uint8_t add_sac(struct tacit_reading *reading, size_t start, size_t length)
+{
+    if (reading->sac.length != 0)
+        return TACIT_REFUSED_REPEATED;
+    if (length < 2)
+        return TACIT_REFUSED_LENGTH;
+    reading->sac = (struct tacit_part){(uint16_t)start, (uint16_t)length};
+    return TACIT_NOT_REFUSED;
+}
+
+static inline uint8_t add_dynamic(struct tacit_reading *reading, size_t length)
+{
+    if (reading->dynamic)
+        return TACIT_REFUSED_REPEATED;
+    if (length != 1)
+        return TACIT_REFUSED_LENGTH;
+    reading->dynamic = 1;
+    return TACIT_NOT_REFUSED;
+}
+
+/* A type that is not read: U is set, or it is a capability's. */
+static inline uint8_t pass_over(unsigned type)
+{
+    return (type & 0x8000) || (type & 0x3F00) == 0x0500 ? TACIT_NOT_REFUSED : TACIT_REFUSED_TYPE;
+}
+
+/* Reads an area into an empty reading, and hands back the refusal. */
+static uint8_t read_area(struct tacit_reading *reading, const uint8_t *area, size_t area_len)
+{
+    if (area_len > TACIT_AREA_MOST)
+        return TACIT_REFUSED_AREA;
+    const uint8_t *tlv = area;
+    size_t left = area_len;
+    while (left > 0) {
+        if (left < HEAD)
+            return TACIT_REFUSED_CUT_SHORT;
+        unsigned type = get_be16(tlv);
+        size_t length = get_be16(tlv + 2);
+        left -= HEAD;
+        if (length > left)
+            return TACIT_REFUSED_CUT_SHORT;
+        uint8_t refusal = TACIT_NOT_REFUSED;
+        switch (type & 0x3FFF) {
+        case TYPE_TAC: refusal = add_tac(reading, area_len - left, length); break;
+        case TYPE_SAC: refusal = add_sac(reading, area_len - left, length); break;
+        case TYPE_DYNAMIC: refusal = add_dynamic(reading, length); break;
+        default: refusal = pass_over(type); break;
+        }
+        if (refusal != TACIT_NOT_REFUSED)
+            return refusal;
+        left -= length;
+        tlv += HEAD + length;
+    }
+    return TACIT_NOT_REFUSED;
+}
+
+/* ---------------------------------------------------------------------- */
+/* Lists                                                                   */
+/* ---------------------------------------------------------------------- */
+
+/* Of the elements of a TAC those count that are known and whose TA-Id was not met before. */
+static inline bool counts(unsigned ta_id, unsigned met)
+{
+    return is_application(ta_id) && (met & TACIT_APP_SET(ta_id)) == 0;
+}
+
+/* The applications that the TAC of an Initialization names, whatever S and E are. */
+static unsigned named_by_tac(const uint8_t *tac, size_t length)
+{
+    unsigned named = 0;
+    for (size_t at = 1; at < length; at += 4) {
+        unsigned ta_id = get_be16(tac + at);
+        if (counts(ta_id, named))
+            named |= TACIT_APP_SET(ta_id);
+    }
+    return named;
+}
+
+/* The list after the elements of a TAC in a Capability message. */
+static unsigned changed_by_tac(unsigned listed, const uint8_t *tac, size_t length)
+{
+    unsigned met = 0;
+    for (size_t at = 1; at < length; at += 4) {
+        unsigned ta_id = get_be16(tac + at);
+        if (!counts(ta_id, met))
+            continue;
+        met |= TACIT_APP_SET(ta_id);
+        if (tac[at + 2] & 0x80)
+            listed |= TACIT_APP_SET(ta_id);
+        else
+            listed &= ~TACIT_APP_SET(ta_id);
+    }
+    return listed;
+}
+
+/* The set of a SAC element's App: empty if it controls nothing. */
+static inline unsigned app_at(const uint8_t *element)
+{
+    unsigned app = *element >> 4 & 7u;
+    return app >= 1 && app <= SAC_APPS ? 1u << (app - 1) : 0;
+}
+
+/* The Apps that the SAC of an Initialization disables: D = 0 does nothing there. */
+static unsigned disabled_by_sac(const uint8_t *sac, size_t length)
+{
+    unsigned disabled = 0;
+    for (size_t at = 1; at < length; at++)
+        if (sac[at] & 0x80)
+            disabled |= app_at(sac + at);
+    return disabled;
+}
+
+/* The disabled Apps after the SAC of a Capability message. */
+static unsigned changed_by_sac(unsigned disabled, const uint8_t *sac, size_t length)
+{
+    for (size_t at = 1; at < length; at++) {
+        if (sac[at] & 0x80)
+            disabled |= app_at(sac + at);
+        else
+            disabled &= ~app_at(sac + at);
+    }
+    return disabled;
+}
+
+/* ---------------------------------------------------------------------- */
+/* Answers                                                                 */
+/* ---------------------------------------------------------------------- */
+
+static inline struct tacit_answer refused(uint8_t refusal)
+{
+    return (struct tacit_answer){.refusal = refusal};
+}
+
+/* Of an event that changes no permission. */
+static inline struct tacit_answer came_to(uint8_t outcome)
+{
+    return (struct tacit_answer){.outcome = outcome};
+}
+
+/* Of an event before and after which these kinds are permitted. */
+static inline struct tacit_answer moved(uint8_t outcome, unsigned before, unsigned after)
+{
+    return (struct tacit_answer){.outcome = outcome,
+                                 .lost = (uint16_t)(before & ~after),
+                                 .gained = (uint16_t)(after & ~before)};
+}
+
+/* ---------------------------------------------------------------------- */
+/* Events                                                                  */
+/* ---------------------------------------------------------------------- */
+
+/*
+ * Each event is given a sound session and makes the session after it of it. Where it is
+ * refused, or comes to Unchanged, the session is left alone.
+ */
+
+/* Forgets what is known of the peer in Open alone. */
+static inline void leave(struct tacit_session *session, uint8_t state)
+{
+    session->state = state;
+    session->flags &= (uint8_t)~IN_OPEN_ALONE;
+    session->listed = 0;
+    session->disabled = 0;
+}
+
+static inline void leave_by_mismatch(struct tacit_session *session)
+{
+    leave(session, state_after_mismatch(session->flags));
+    if (session->state == TACIT_GONE) {
+        session->flags &= (uint8_t)~TACIT_FLAG_HELLO_RECORDED;
+        session->hello = 0;
+    }
+}
+
+/* In Ready nothing is listed or disabled, so that what is not set here is empty. */
+static inline struct tacit_answer initialization(struct tacit_session *session, const uint8_t *area,
+                                                 size_t area_len)
+{
+    struct tacit_reading reading = {0};
+    if (session->state != TACIT_READY)
+        return refused(TACIT_REFUSED_STATE);
+    uint8_t refusal = read_area(&reading, area, area_len);
+    if (refusal != TACIT_NOT_REFUSED)
+        return refused(refusal);
+    if ((session->flags & TACIT_FLAG_USES_TAC) && reading.tac.length != 0) {
+        unsigned listed = named_by_tac(area + reading.tac.start, reading.tac.length);
+        if ((session->enabled & listed) == 0) {
+            leave_by_mismatch(session);
+            return came_to(TACIT_MISMATCH);
+        }
+        session->listed = (uint16_t)listed;
+        session->flags |= TACIT_FLAG_IN_FORCE;
+    }
+    if (reading.sac.length != 0)
+        session->disabled = (uint8_t)disabled_by_sac(area + reading.sac.start, reading.sac.length);
+    if (reading.dynamic)
+        session->flags |= TACIT_FLAG_PEER_DYNAMIC;
+    session->state = TACIT_OPEN;
+    return moved(TACIT_DONE, 0, permitted_kinds(session));
+}
+
+/* What the TAC of a Capability message makes of list and force; out of force the list is empty. */
+static inline void apply_tac(struct tacit_session *session, const uint8_t *tac, size_t length)
+{
+    if (tac[0] & 0x80) {
+        session->listed = (uint16_t)changed_by_tac(session->listed, tac, length);
+        session->flags |= TACIT_FLAG_IN_FORCE;
+    } else {
+        session->listed = 0;
+        session->flags &= (uint8_t)~TACIT_FLAG_IN_FORCE;
+    }
+}
+
+/* Is negotiation in force without an application that is common to both ends? */
+static inline bool has_none_in_common(const struct tacit_session *session)
+{
+    return (session->flags & TACIT_FLAG_IN_FORCE) && used(session) == 0;
+}
+
+static inline struct tacit_answer capability(struct tacit_session *session, const uint8_t *area,
+                                             size_t area_len)
+{
+    struct tacit_reading reading = {0};
+    if (session->state != TACIT_OPEN)
+        return refused(TACIT_REFUSED_STATE);
+    uint8_t refusal = read_area(&reading, area, area_len);
+    if (refusal != TACIT_NOT_REFUSED)
+        return refused(refusal);
+    unsigned before = permitted_kinds(session);
+    if ((session->flags & TACIT_FLAG_USES_TAC) && reading.tac.length != 0)
+        apply_tac(session, area + reading.tac.start, reading.tac.length);
+    if (has_none_in_common(session)) {
+        leave_by_mismatch(session);
+        return moved(TACIT_MISMATCH, before, 0);
+    }
+    if (reading.sac.length != 0)
+        session->disabled = (uint8_t)changed_by_sac(session->disabled, area + reading.sac.start,
+                                                    reading.sac.length);
+    return moved(TACIT_DONE, before, permitted_kinds(session));
+}
+
+/* A Capability message with a TAC of one element. */
+static void write_message(uint8_t *room, uint32_t number, uint32_t ta_id, bool on)
+{
+    put_be16(room, 0x0202);
+    put_be16(room + 2, TACIT_MESSAGE_LENGTH - HEAD);
+    put_be32(room + 4, number);
+    put_be16(room + 8, 0x8000 | TYPE_TAC);
+    put_be16(room + 10, 5);
+    room[12] = 0x80;
+    put_be16(room + 13, ta_id);
+    put_be16(room + 15, on ? 0x8000 : 0);
+}
+
+static inline struct tacit_answer local_change(struct tacit_session *session, uint32_t ta_id,
+                                               bool on, uint8_t *room, size_t room_len)
+{
+    if (!is_application(ta_id))
+        return refused(TACIT_REFUSED_NUMBER);
+    unsigned enabled = session->enabled & ~TACIT_APP_SET(ta_id);
+    if (on)
+        enabled |= TACIT_APP_SET(ta_id);
+    if (enabled == session->enabled)
+        return came_to(TACIT_UNCHANGED);
+    if (session->state != TACIT_OPEN || !(session->flags & TACIT_FLAG_USES_TAC)) {
+        session->enabled = (uint16_t)enabled;
+        if (session->state == TACIT_HELD)
+            session->state = TACIT_READY;
+        return came_to(TACIT_DONE);
+    }
+    if (!(session->flags & TACIT_FLAG_PEER_DYNAMIC))
+        return refused(TACIT_REFUSED_NOT_DYNAMIC);
+    if (room_len < TACIT_MESSAGE_LENGTH)
+        return refused(TACIT_REFUSED_ROOM);
+    unsigned before = permitted_kinds(session);
+    session->enabled = (uint16_t)enabled;
+    if (has_none_in_common(session)) {
+        leave_by_mismatch(session);
+        return moved(TACIT_MISMATCH, before, 0);
+    }
+    struct tacit_answer answer = moved(TACIT_DONE, before, permitted_kinds(session));
+    answer.written = TACIT_MESSAGE_LENGTH;
+    write_message(room, session->next++, ta_id, on);
+    return answer;
+}
+
+static inline struct tacit_answer mismatch(struct tacit_session *session)
+{
+    if (session->state != TACIT_READY && session->state != TACIT_OPEN)
+        return refused(TACIT_REFUSED_STATE);
+    unsigned before = permitted_kinds(session);
+    leave_by_mismatch(session);
+    return moved(TACIT_MISMATCH, before, 0);
+}
+
+static inline struct tacit_answer hello(struct tacit_session *session, uint32_t number)
+{
+    /* In Gone none is recorded, and in Held the first one changes no state. */
+    bool recorded = session->flags & TACIT_FLAG_HELLO_RECORDED;
+    if (recorded && number <= session->hello)
+        return came_to(TACIT_UNCHANGED);
+    if (session->state == TACIT_GONE || (recorded && session->state == TACIT_HELD))
+        session->state = TACIT_READY;
+    session->flags |= TACIT_FLAG_HELLO_RECORDED;
+    session->hello = number;
+    return came_to(TACIT_DONE);
+}
+
+static inline struct tacit_answer closed(struct tacit_session *session)
+{
+    if (session->state != TACIT_OPEN)
+        return refused(TACIT_REFUSED_STATE);
+    unsigned before = permitted_kinds(session);
+    leave(session, TACIT_READY);
+    return moved(TACIT_DONE, before, 0);
+}
+
+/* ---------------------------------------------------------------------- */
+/* Calls on the record of one session                                      */
+/* ---------------------------------------------------------------------- */
+
+struct tacit_reading plain_read(const uint8_t *area, size_t area_len)
+{
+    struct tacit_reading reading = {0};
+    uint8_t refusal = read_area(&reading, area, area_len);
+    return refusal == TACIT_NOT_REFUSED ? reading : (struct tacit_reading){.refusal = refusal};
+}
+
+uint8_t plain_create(uint8_t *record, size_t record_len, bool initiating, bool active,
+                     bool uses_tac, bool drops, uint32_t protected_kinds, uint32_t enabled,
+                     uint32_t first_number)
+{
+    if (record_len != TACIT_RECORD_LENGTH)
+        return TACIT_REFUSED_NOT_SOUND;
+    if ((protected_kinds & ~TACIT_ALL_KINDS) != 0 || (enabled & ~TACIT_ALL_APPS) != 0)
+        return TACIT_REFUSED_NUMBER;
+    struct tacit_session session = {
+        .state = TACIT_READY,
+        .flags = (uint8_t)((initiating ? TACIT_FLAG_INITIATING : 0) |
+                           (active ? TACIT_FLAG_ACTIVE : 0) |
+                           (uses_tac ? TACIT_FLAG_USES_TAC : 0) | (drops ? TACIT_FLAG_DROPS : 0)),
+        .enabled = (uint16_t)enabled,
+        .protects = (uint16_t)protected_kinds,
+        .next = first_number,
+    };
+    write_record(record, &session);
+    return TACIT_NOT_REFUSED;
+}
+
+/* Puts down what an event made of a session, if it made anything of it. */
+static inline struct tacit_answer stored(uint8_t *record, const struct tacit_session *session,
+                                         struct tacit_answer answer)
+{
+    if (answer.refusal == TACIT_NOT_REFUSED && answer.outcome != TACIT_UNCHANGED)
+        update_record(record, session);
+    return answer;
+}
+
+struct tacit_answer plain_initialization(uint8_t *record, size_t record_len, const uint8_t *area,
+                                         size_t area_len)
+{
+    struct tacit_session session;
+    if (!read_record(&session, record, record_len))
+        return refused(TACIT_REFUSED_NOT_SOUND);
+    return stored(record, &session, initialization(&session, area, area_len));
+}
+
+struct tacit_answer plain_capability(uint8_t *record, size_t record_len, const uint8_t *area,
+                                     size_t area_len)
+{
+    struct tacit_session session;
+    if (!read_record(&session, record, record_len))
+        return refused(TACIT_REFUSED_NOT_SOUND);
+    return stored(record, &session, capability(&session, area, area_len));
+}
+
+struct tacit_answer plain_local_change(uint8_t *record, size_t record_len, uint32_t ta_id, bool on,
+                                       uint8_t *room, size_t room_len)
+{
+    struct tacit_session session;
+    if (!read_record(&session, record, record_len))
+        return refused(TACIT_REFUSED_NOT_SOUND);
+    return stored(record, &session, local_change(&session, ta_id, on, room, room_len));
+}
+
+struct tacit_answer plain_mismatch(uint8_t *record, size_t record_len)
+{
+    struct tacit_session session;
+    if (!read_record(&session, record, record_len))
+        return refused(TACIT_REFUSED_NOT_SOUND);
+    return stored(record, &session, mismatch(&session));
+}
+
+struct tacit_answer plain_hello(uint8_t *record, size_t record_len, uint32_t number)
+{
+    struct tacit_session session;
+    if (!read_record(&session, record, record_len))
+        return refused(TACIT_REFUSED_NOT_SOUND);
+    return stored(record, &session, hello(&session, number));
+}
+
+struct tacit_answer plain_closed(uint8_t *record, size_t record_len)
+{
+    struct tacit_session session;
+    if (!read_record(&session, record, record_len))
+        return refused(TACIT_REFUSED_NOT_SOUND);
+    return stored(record, &session, closed(&session));
+}
+
+struct tacit_permission plain_permitted(const uint8_t *record, size_t record_len, uint32_t kind)
+{
+    struct tacit_session session;
+    if (!read_record(&session, record, record_len))
+        return (struct tacit_permission){.refusal = TACIT_REFUSED_NOT_SOUND};
+    if (kind >= KINDS)
+        return (struct tacit_permission){.refusal = TACIT_REFUSED_NUMBER};
+    return (struct tacit_permission){.permitted = why_not(&session, kind) == TACIT_PERMITTED};
+}
+
+struct tacit_kinds plain_permitted_kinds(const uint8_t *record, size_t record_len)
+{
+    struct tacit_session session;
+    if (!read_record(&session, record, record_len))
+        return (struct tacit_kinds){.refusal = TACIT_REFUSED_NOT_SOUND};
+    return (struct tacit_kinds){.kinds = (uint16_t)permitted_kinds(&session)};
+}
+
+struct tacit_retry plain_retry_interval(const uint8_t *record, size_t record_len)
+{
+    struct tacit_session session;
+    if (!read_record(&session, record, record_len))
+        return (struct tacit_retry){.refusal = TACIT_REFUSED_NOT_SOUND};
+    return (struct tacit_retry){.interval = retry_interval(&session)};
+}
+
+bool plain_sound(const uint8_t *record, size_t record_len)
+{
+    struct tacit_session session;
+    return read_record(&session, record, record_len);
+}
+
+struct tacit_reason plain_why_not(const uint8_t *record, size_t record_len, uint32_t kind)
+{
+    struct tacit_session session;
+    if (!read_record(&session, record, record_len))
+        return (struct tacit_reason){.refusal = TACIT_REFUSED_NOT_SOUND};
+    if (kind >= KINDS)
+        return (struct tacit_reason){.refusal = TACIT_REFUSED_NUMBER};
+    return (struct tacit_reason){.reason = why_not(&session, kind)};
+}
+
+/* ---------------------------------------------------------------------- */
+/* Calls for rows of sessions                                              */
+/* ---------------------------------------------------------------------- */
+
+struct tacit_loaded plain_load(const uint8_t *record, size_t record_len)
+{
+    struct tacit_loaded loaded = {0};
+    if (!read_record(&loaded.session, record, record_len))
+        return (struct tacit_loaded){TACIT_REFUSED_NOT_SOUND, {.state = TACIT_NO_STATE}};
+    return loaded;
+}
+
+uint8_t plain_store(struct tacit_session session, uint8_t *record, size_t record_len)
+{
+    if (record_len != TACIT_RECORD_LENGTH || !is_sound(&session))
+        return TACIT_REFUSED_NOT_SOUND;
+    write_record(record, &session);
+    return TACIT_NOT_REFUSED;
+}
+
+struct tacit_limits plain_no_limits(void)
+{
+    struct tacit_limits limits;
+    memset(limits.of, TACIT_LIMIT_MOST, sizeof limits.of);
+    return limits;
+}
+
+struct tacit_limited plain_set_limit(struct tacit_limits limits, uint32_t ta_id, uint32_t limit)
+{
+    struct tacit_limited limited = {TACIT_NOT_REFUSED, limits};
+    if (!is_application(ta_id))
+        limited.refusal = TACIT_REFUSED_NUMBER;
+    else if (limit > TACIT_LIMIT_MOST)
+        limited.refusal = TACIT_REFUSED_LIMIT;
+    else
+        limited.limits.of[ta_id - 1] = (uint8_t)limit;
+    return limited;
+}
+
+struct tacit_kinds plain_session_kinds(struct tacit_session session)
+{
+    if (!is_sound(&session))
+        return (struct tacit_kinds){.refusal = TACIT_REFUSED_NOT_SOUND};
+    return (struct tacit_kinds){.kinds = (uint16_t)permitted_kinds(&session)};
+}
+
+struct tacit_retry plain_session_retry(struct tacit_session session)
+{
+    if (!is_sound(&session))
+        return (struct tacit_retry){.refusal = TACIT_REFUSED_NOT_SOUND};
+    return (struct tacit_retry){.interval = retry_interval(&session)};
+}
+
+/* The refusal of a row, asked for its session with this number. */
+static uint8_t refusal_of_row(const struct tacit_session *row, size_t row_len, size_t at)
+{
+    if (row_len > TACIT_ROW_MOST || at >= row_len)
+        return TACIT_REFUSED_ROW;
+    for (size_t i = 0; i < row_len; i++)
+        if (!is_sound(&row[i]))
+            return TACIT_REFUSED_NOT_SOUND;
+    return TACIT_NOT_REFUSED;
+}
+
+/* How many sessions of the row use this application. */
+static uint8_t users(const struct tacit_session *row, size_t row_len, unsigned application)
+{
+    uint8_t count = 0;
+    for (size_t i = 0; i < row_len; i++)
+        if (used(&row[i]) & application)
+            count++;
+    return count;
+}
+
+/*
+ * Do as many sessions of the row use each of these applications as its limit allows?
+ * A limit over 64 needs no care: it is not reached, as 64 is not.
+ */
+static bool all_at_limit(const struct tacit_session *row, size_t row_len,
+                         const struct tacit_limits *limits, unsigned applications)
+{
+    for (unsigned i = 0; applications >> i != 0; i++)
+        if ((applications >> i & 1) && users(row, row_len, 1u << i) < limits->of[i])
+            return false;
+    return true;
+}
+
+/* The session opens by itself first, and stays so only if the limits allow it. */
+static struct tacit_answer row_initialization(struct tacit_session *row, size_t row_len, size_t at,
+                                              const struct tacit_limits *limits,
+                                              const uint8_t *area, size_t area_len)
+{
+    struct tacit_session after = row[at];
+    struct tacit_answer answer = initialization(&after, area, area_len);
+    if (answer.refusal != TACIT_NOT_REFUSED)
+        return answer;
+    if (used(&after) != 0 && all_at_limit(row, row_len, limits, used(&after))) {
+        leave_by_mismatch(&row[at]);
+        return came_to(TACIT_AT_LIMIT);
+    }
+    row[at] = after;
+    return answer;
+}
+
+struct tacit_count plain_row_count(const struct tacit_session *row, size_t row_len, uint32_t ta_id)
+{
+    uint8_t refusal = refusal_of_row(row, row_len, 0);
+    if (refusal != TACIT_NOT_REFUSED)
+        return (struct tacit_count){.refusal = refusal};
+    if (!is_application(ta_id))
+        return (struct tacit_count){.refusal = TACIT_REFUSED_NUMBER};
+    return (struct tacit_count){.count = users(row, row_len, TACIT_APP_SET(ta_id))};
+}
+
+struct tacit_answer plain_row_event(struct tacit_session *row, size_t row_len, size_t at,
+                                    struct tacit_event event, struct tacit_limits limits,
+                                    const uint8_t *area, size_t area_len, uint8_t *room,
+                                    size_t room_len)
+{
+    uint8_t refusal = refusal_of_row(row, row_len, at);
+    if (refusal != TACIT_NOT_REFUSED)
+        return refused(refusal);
+    switch (event.which) {
+    case TACIT_EVENT_INITIALIZATION:
+        return row_initialization(row, row_len, at, &limits, area, area_len);
+    case TACIT_EVENT_CAPABILITY:
+        return capability(&row[at], area, area_len);
+    case TACIT_EVENT_LOCAL_CHANGE:
+        return local_change(&row[at], event.ta_id, event.on != 0, room, room_len);
+    case TACIT_EVENT_MISMATCH:
+        return mismatch(&row[at]);
+    case TACIT_EVENT_HELLO:
+        return hello(&row[at], event.number);
+    case TACIT_EVENT_CLOSED:
+        return closed(&row[at]);
+    default:
+        return refused(TACIT_REFUSED_STATE);
+    }
+}
+
+struct tacit_answer plain_row_initialization(struct tacit_session *row, size_t row_len, size_t at,
+                                             struct tacit_limits limits, const uint8_t *area,
+                                             size_t area_len)
+{
+    struct tacit_event event = {.which = TACIT_EVENT_INITIALIZATION};
+    return plain_row_event(row, row_len, at, event, limits, area, area_len, NULL, 0);
+}
+
+struct tacit_answer plain_row_capability(struct tacit_session *row, size_t row_len, size_t at,
+                                         const uint8_t *area, size_t area_len)
+{
+    struct tacit_event event = {.which = TACIT_EVENT_CAPABILITY};
+    return plain_row_event(row, row_len, at, event, plain_no_limits(), area, area_len, NULL, 0);
+}
+
+struct tacit_answer plain_row_local_change(struct tacit_session *row, size_t row_len, size_t at,
+                                           uint32_t ta_id, bool on, uint8_t *room, size_t room_len)
+{
+    struct tacit_event event = {.which = TACIT_EVENT_LOCAL_CHANGE, .ta_id = ta_id, .on = on};
+    return plain_row_event(row, row_len, at, event, plain_no_limits(), NULL, 0, room, room_len);
+}
+
+struct tacit_answer plain_row_mismatch(struct tacit_session *row, size_t row_len, size_t at)
+{
+    struct tacit_event event = {.which = TACIT_EVENT_MISMATCH};
+    return plain_row_event(row, row_len, at, event, plain_no_limits(), NULL, 0, NULL, 0);
+}
+
+struct tacit_answer plain_row_hello(struct tacit_session *row, size_t row_len, size_t at,
+                                    uint32_t number)
+{
+    struct tacit_event event = {.which = TACIT_EVENT_HELLO, .number = number};
+    return plain_row_event(row, row_len, at, event, plain_no_limits(), NULL, 0, NULL, 0);
+}
+
+struct tacit_answer plain_row_closed(struct tacit_session *row, size_t row_len, size_t at)
+{
+    struct tacit_event event = {.which = TACIT_EVENT_CLOSED};
+    return plain_row_event(row, row_len, at, event, plain_no_limits(), NULL, 0, NULL, 0);
+}
