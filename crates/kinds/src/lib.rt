@@ -116,7 +116,7 @@ fn kinds_by(table: [u16; KINDS], members: u16) -> u16
 }
 
 // The applications that open a kind, in a session with these protected kinds.
-pub fn openers(kind: u16, protects: u16) -> u16
+fn openers(kind: u16, protects: u16) -> u16
     ensures { λ r. ⌜ r ≡ openers protects kind ⌝ }
 {
     let always = at(OPENERS, kind);

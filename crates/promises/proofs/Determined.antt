@@ -21,7 +21,6 @@ kinds-determined =
       is-in = by-equation _;
       switched = by-equation _;
       app-switched = by-equation _;
-      openers = by-equation _;
       opens-kind = by-equation _;
       opened = by-equation _;
       disables-kind = by-equation _;

@@ -13,7 +13,6 @@ use Rattle.kinds.proofs.TaId.is_known.Reads as kinds-is-known
 use Rattle.kinds.proofs.TaId.is_in.Reads as kinds-is-in
 use Rattle.kinds.proofs.TaId.switched.Reads as kinds-switched
 use Rattle.kinds.proofs.SacApp.switched.Reads as kinds-app-switched
-use Rattle.kinds.proofs.openers.Reads as kinds-openers
 use Rattle.kinds.proofs.opens_kind.Reads as kinds-opens-kind
 use Rattle.kinds.proofs.opened.Reads as kinds-opened
 use Rattle.kinds.proofs.disables_kind.Reads as kinds-disables-kind
@@ -97,7 +96,6 @@ pub record KindsDetermined : Type 0 where
   pub is-in : Determined (kinds-is-in.Post tt)
   pub switched : Determined (kinds-switched.Post tt)
   pub app-switched : Determined (kinds-app-switched.Post tt)
-  pub openers : Determined (kinds-openers.Post tt)
   pub opens-kind : Determined (kinds-opens-kind.Post tt)
   pub opened : Determined (kinds-opened.Post tt)
   pub disables-kind : Determined (kinds-disables-kind.Post tt)

@@ -77,8 +77,11 @@ impl EventNumbers {
     ) -> After
         ensures { λ r. ⌜ r ≡ decidedBy s tally self limits (now (area .entry)) room ⌝ }
     {
-        if tally.sound & s.sound() {
-            return self.apply(s, tally, limits, area, room);
+        if tally.sound {
+            if s.sound() {
+                return self.apply(s, tally, limits, area, room);
+            }
+            return s.refused(refusals::NOT_SOUND);
         }
         s.refused(refusals::NOT_SOUND)
     }

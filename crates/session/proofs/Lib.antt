@@ -5,5 +5,4 @@ pub mod Shapes
 pub mod Alike
 pub mod View
 pub mod Steps
-pub mod Opening
 pub mod PermittedMeans

@@ -179,6 +179,14 @@ initialization-along R s a b c f g =
     (λ h. pick-both R (isReady s) (λ _. pick-both R (eqb (readArea a .refusal) notRefused) (λ _. f h) (λ _. g (readArea a .refusal))) (λ _. g wrongState))
     (λ _. g notSound)
 
+-- where there is no row nothing but a mismatch is looked for
+pub initialization-all : (s : Session) (a : List ℕ) → step s (Initialization a allApplications)
+    ≡ settled s (checked s (pick (isReady s) (unlessRefused (readArea a) (Negotiate (afterInitialization s a (readArea a)))) (Refused wrongState)))
+unfolding afterInitialization
+initialization-all s a =
+    let t = afterInitialization s a (readArea a) in
+    initialization-along (λ (c c′ : Decision). settled s c ≡ settled s c′) s a allApplications (Negotiate t) (λ h. admit-all s t (sound-means s h .enabled)) (λ _. refl)
+
 pub initialization-unlimited : (s : Session) (a : List ℕ) (belowLimit : ℕ) → (step s (Initialization a belowLimit) .answer .outcome ≡ outcomeAtLimit → ⊥)
     → step s (Initialization a belowLimit) ≡ step s (Initialization a allApplications)
 unfolding onInitialization afterInitialization

@@ -74,11 +74,10 @@ impl Session {
     fn why_in_force(self, kind: u16) -> u8
         ensures { λ r. ⌜ r ≡ pick (not (has (opened (self .protects) (self .enabled)) kind)) whyNotEnabled (pick (not (has (opened (self .protects) (negotiated self)) kind)) whyNotListed whyPermitted) ⌝ }
     {
-        let openers = kinds::openers(kind, self.protects);
-        if sets::meets(self.negotiated(), openers) {
+        if kinds::opens_kind(self.negotiated(), self.protects, kind) {
             return Self::PERMITTED;
         }
-        if sets::meets(self.enabled, openers) {
+        if kinds::opens_kind(self.enabled, self.protects, kind) {
             return Self::NOT_LISTED;
         }
         Self::NOT_ENABLED

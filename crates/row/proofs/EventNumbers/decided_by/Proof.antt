@@ -1,14 +1,6 @@
--- `EventNumbers::decided_by` meets its contract: where all are sound this one is asked again, and what is not sound is refused either way. Assumes nothing.
-use mathlib.Core.Path.{_≡_, refl, sym, _∙_}
-use mathlib.Core.Bool.{Bool, true, false, _&&_}
-use Rattle.choice.specs.Pick.{pick}
-use Rattle.choice.proofs.Branch.{taken}
-use Rattle.choice.proofs.Tests.{and-first, and-second}
-use Rattle.refusals.specs.Refusals.{notSound}
-use Rattle.session.specs.declared.Session.{Session}
-use Rattle.session.specs.Session.{sound}
-use Rattle.session.specs.Decisions.{refused}
-use Rattle.session.specs.Events.{Event, step}
+-- `EventNumbers::decided_by` meets its contract: each return by the tests that led there. What is not sound is refused whatever the event. Assumes nothing.
+use mathlib.Core.Path.{sym, _∙_}
+use Rattle.choice.proofs.Branch.{pick-true, pick-false}
 use Rattle.session.proofs.Steps.{unsound-refused}
 use Rattle.row.specs.Events.{eventOf}
 use Rattle.row.specs.Counting.{belowLimitBy, decidedBy}
@@ -16,27 +8,24 @@ use borrow.Author.Needs.{needs}
 use Rattle.row.proofs.EventNumbers.decided_by.Statement.{statement}
 use Rattle.row.proofs.EventNumbers.decided_by.Tie as tie
 
-refused-either : (all : Bool) (s : Session) (e : Event) → (all && sound s) ≡ false → refused s notSound ≡ pick all (step s e) (refused s notSound)
-unfolding pick
-refused-either true s e h = sym (unsound-refused s e h)
-refused-either false s e h = refl
-
-apply-requires : tie.Need-apply-requires
-apply-requires c κs = sym (c .before .before .sound .ensures) ∙ and-second (c .before .before .before .before .args .tally .sound) (c .before .before .sound .result) (c .if1 .taken)
-
 returns : tie.Need-returns
 unfolding decidedBy
-returns c =
-    c .apply .ensures
-    ∙ sym (taken _ _ (and-first (c .before .before .before .before .before .args .tally .sound) (c .before .before .before .sound .result) (c .before .if1 .taken)))
+returns c = simp (c .before .before .before .if1 .taken, c .apply .ensures, pick-true)
 
 returns-2 : tie.Need-returns-2
 unfolding decidedBy
 returns-2 c =
-    let at = c .before .before .before .before .before .args in
-    c .refused .ensures
-    ∙ refused-either (at .tally .sound) (at .s) (eventOf (at .self) (belowLimitBy (at .tally) (at .limits)) (at .area .now) (at .room)) (rw (c .before .before .before .sound .ensures) at (c .before .if1 .left))
+    let at = c .before .before .before .before .before .args in let e = eventOf (at .self) (belowLimitBy (at .tally) (at .limits)) (at .area .now) (at .room) in
+    simp (c .before .before .before .if1 .taken, unsound-refused (at .s) e (sym (c .before .before .sound .ensures) ∙ c .before .if2 .left), c .refused .ensures, pick-true)
+
+returns-3 : tie.Need-returns-3
+unfolding decidedBy
+returns-3 c = simp (c .before .if1 .left, c .refused2 .ensures, pick-false)
 
 pub decided-by-spec : {M : Type 1} → statement M
 decided-by-spec =
-    tie.close (tie.spec (λ c κs. search needs) apply-requires returns (λ c κs. search needs) returns-2)
+    tie.close
+    (tie.spec
+    (λ c κs. search needs) (λ c κs. sym (c .before .sound .ensures) ∙ c .if2 .taken) returns
+    (λ c κs. search needs) returns-2
+    (λ c κs. search needs) returns-3)

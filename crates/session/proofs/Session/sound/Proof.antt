@@ -1,6 +1,6 @@
 -- `Session::sound` meets its contract: the rules go by the state, and where one fails the others are not asked. Assumes nothing.
 use mathlib.Core.Path.{_≡_, refl, sym, ap, _∙_}
-use mathlib.Core.Bool.{Bool, true, false, not, _&&_, _||_, Bool·not-not, and-true}
+use mathlib.Core.Bool.{Bool, true, false, not, _&&_, _||_, Bool·not-not, and-true, and-false}
 use Prim.Native.Nat.{ℕ}
 use lib.Dec.{eqb}
 use borrow.Author.Tests.{ne-eqb}
@@ -58,14 +58,7 @@ module _ (s : Session) (spare : spareZero s ≡ true) (hello : helloSound s ≡ 
 -- the rule of the Hello fails
 no-hello : (s : Session) → helloSound s ≡ false → sound s ≡ false
 unfolding sound
-no-hello s h = ap (λ (b : Bool). spareZero s && (forceSound s && (listedSound s && (openSound s && (b && (heldSound s && goneSound s)))))) h ∙ fails (spareZero s) (forceSound s) (listedSound s) (openSound s)
-  where
-    fails : (x y z w : Bool) → (x && (y && (z && (w && false)))) ≡ false
-    fails true true true true = refl
-    fails true true true false = refl
-    fails true true false w = refl
-    fails true false z w = refl
-    fails false y z w = refl
+no-hello s h = simp (h, and-false)
 
 returns : tie.Need-returns
 returns c =
