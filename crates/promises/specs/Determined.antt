@@ -36,7 +36,7 @@ use Rattle.session.proofs.Session.permitted_kinds.Reads as session-permitted-ki
 use Rattle.session.proofs.Session.permission.Reads as session-permission
 use Rattle.session.proofs.Session.why_not.Reads as session-why-not
 use Rattle.session.proofs.Session.retry_interval.Reads as session-retry-interval
-use Rattle.session.proofs.Session.initialization_unlimited.Reads as session-initialization-unlimited
+use Rattle.session.proofs.Session.initialization_when_sound.Reads as session-initialization-when-sound
 use Rattle.session.proofs.Session.initialization.Reads as session-initialization
 use Rattle.session.proofs.Session.used_when_sound.Reads as session-used-when-sound
 use Rattle.session.proofs.Session.capability.Reads as session-capability
@@ -129,7 +129,7 @@ pub record SessionDetermined : Type 0 where
   pub permission : Determined (session-permission.Post tt)
   pub why-not : Determined (session-why-not.Post tt)
   pub retry-interval : Determined (session-retry-interval.Post tt)
-  pub initialization-unlimited : (κs : _) → Determined (session-initialization-unlimited.Post κs)
+  pub initialization-when-sound : (κs : _) → Determined (session-initialization-when-sound.Post κs)
   pub initialization : (κs : _) → Determined (session-initialization.Post κs)
   pub used-when-sound : Determined (session-used-when-sound.Post tt)
   pub capability : (κs : _) → Determined (session-capability.Post κs)

@@ -1,11 +1,13 @@
 -- What the pass finds serves as a tally of the whole row: where all sessions are sound it has the counts that an Initialization or a count asks for, where one
 -- is not nothing is asked of it, and no other event asks for a count. So an event by what the pass found is the event of the row. Assumes emptyTally.
-use Prim.Native.Nat.{ℕ, _-_}
+use Prim.Native.Nat.{ℕ, zero, suc, _-_, _<_}
 use mathlib.Core.Path.{_≡_, refl, ap, _∙_}
 use mathlib.Core.Bool.{Bool, true}
 use mathlib.Core.List.{List, [], _∷_}
 use lib.ListN.{length, getD}
-use lib.Dec.{eqb}
+use lib.Dec.{eqb, ltb}
+use native.Mathlib.Omega.{arith}
+use borrow.Author.Tests.{ltb-true}
 use Rattle.choice.specs.Pick.{pick}
 use Rattle.choice.proofs.Branch.{taken, pick-both, pick-true}
 use Rattle.choice.proofs.Tests.{and-first, and-second}
@@ -36,6 +38,17 @@ leading-all (s ∷ row) all = taken _ _ (and-first (sound s) (allSound row) all)
 surveyed-all : (row : List Session) → allSound row ≡ true → surveyed true row .counts ≡ tallied emptyTally row .counts
 unfolding surveyed
 surveyed-all row all = pick-true _ _ ∙ ap (λ (l : List Session). tallied emptyTally l .counts) (leading-all row all)
+
+-- and then each of them is
+sound-at : (row : List Session) (at : ℕ) → at < length row → allSound row ≡ true → sound (sessionAt row at) ≡ true
+unfolding allSound
+sound-at [] at l all = absurd (omega arith)
+sound-at (s ∷ row) zero l all = and-first (sound s) (allSound row) all
+sound-at (s ∷ row) (suc at) l all = sound-at row at (omega arith) (and-second (sound s) (allSound row) all)
+
+pub sound-found : (row : List Session) (at : ℕ) (counting : Bool) → inRow row at ≡ true → surveyed counting row .sound ≡ true → sound (sessionAt row at) ≡ true
+unfolding surveyed
+sound-found row at counting inside = sound-at row at (ltb-true at (length row) (and-first (ltb at (length row)) _ inside))
 
 -- ---- by what the pass found
 module _ (row : List Session) (at : ℕ) (e : EventNumbers) (l : Limits) (area : List ℕ) where

@@ -32,7 +32,7 @@ impl EventNumbers {
         ensures { λ r. ⌜ r ≡ step s (eventOf self (belowLimitBy tally limits) (now (area .entry)) room) ⌝ }
     {
         if self.which == Self::INITIALIZATION {
-            return s.initialization(area, tally.below_limit_by(limits));
+            return s.initialization_when_sound(area, tally.below_limit_by(limits));
         }
         if self.which == Self::CAPABILITY {
             return s.capability(area);
@@ -75,13 +75,11 @@ impl EventNumbers {
         area: &[u8],
         room: usize,
     ) -> After
+        requires { ⌜ (tally .sound ≡ true → sound s ≡ true) ⌝ }
         ensures { λ r. ⌜ r ≡ decidedBy s tally self limits (now (area .entry)) room ⌝ }
     {
         if tally.sound {
-            if s.sound() {
-                return self.apply(s, tally, limits, area, room);
-            }
-            return s.refused(refusals::NOT_SOUND);
+            return self.apply(s, tally, limits, area, room);
         }
         s.refused(refusals::NOT_SOUND)
     }

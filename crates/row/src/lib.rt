@@ -1,9 +1,11 @@
 // A row of sessions: limits on how many use an application, and an event of one session among the others. All of it goes by value but for `tally_of`,
 // which is lent the row, as the C calls are.
 ghost use mathlib.Core.Path.{_≡_};
+ghost use mathlib.Core.Bool.{true};
 ghost use Prim.Native.Nat.{_≤_};
 ghost use lib.ListN.{length};
 ghost use Rattle.refusals.specs.Refusals.{outsideRow};
+ghost use Rattle.session.specs.Session.{sound};
 ghost use Rattle.row.specs.Row.{outside, notCounted};
 ghost use Rattle.row.specs.Counting.{decidedBy, roomBy};
 ghost use Rattle.row.specs.Limiting.{mostSessions};
@@ -75,6 +77,7 @@ pub fn event_in(
     area: &[u8],
     room: &mut [u8],
 ) -> After
+    requires { ⌜ (tally .sound ≡ true → sound s ≡ true) ⌝ }
     ensures { λ r. ⌜ (r ≡ decidedBy s tally event limits (now (area .entry)) (length (now (room .entry)))) × (now (room .exit) ≡ roomBy s tally event limits (now (area .entry)) (now (room .entry))) ⌝ }
 {
     let after = event.decided_by(s, tally, limits, area, room.len());

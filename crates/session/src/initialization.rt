@@ -6,6 +6,7 @@ ghost use Rattle.choice.specs.Pick.{pick};
 ghost use Rattle.kinds.specs.Kinds.{allApplications};
 ghost use Rattle.area.specs.Parts.{Inside};
 ghost use Rattle.lists.specs.Tac.{tacList};
+ghost use Rattle.session.specs.Session.{sound};
 ghost use Rattle.session.specs.Events.{takesTac, afterInitialization, step, Initialization};
 use crate::After;
 use crate::Session;
@@ -54,7 +55,7 @@ impl Session {
     }
 
     // Initialization received (Ready only) where there is no row, and so no limit.
-    pub fn initialization_unlimited(self, area: &[u8]) -> After
+    pub fn initialization(self, area: &[u8]) -> After
         ensures { λ r. ⌜ r ≡ step self (Initialization (now (area .entry)) allApplications) ⌝ }
     {
         if self.sound() {
@@ -70,20 +71,18 @@ impl Session {
         self.refused(refusals::NOT_SOUND)
     }
 
-    // Initialization received (Ready only), told the applications that are below their limit.
-    pub fn initialization(self, area: &[u8], below_limit: u16) -> After
+    // Initialization received by a sound session, told the applications that are below their limit.
+    pub fn initialization_when_sound(self, area: &[u8], below_limit: u16) -> After
+        requires { ⌜ sound self ≡ true ⌝ }
         ensures { λ r. ⌜ r ≡ step self (Initialization (now (area .entry)) «below_limit») ⌝ }
     {
-        if self.sound() {
-            if self.state == Self::READY {
-                let found = area::read_area(area);
-                if found.refusal == refusals::NOT_REFUSED {
-                    return self.admit(self.after_initialization(area, found), below_limit);
-                }
-                return self.refused(found.refusal);
+        if self.state == Self::READY {
+            let found = area::read_area(area);
+            if found.refusal == refusals::NOT_REFUSED {
+                return self.admit(self.after_initialization(area, found), below_limit);
             }
-            return self.refused(refusals::WRONG_STATE);
+            return self.refused(found.refusal);
         }
-        self.refused(refusals::NOT_SOUND)
+        self.refused(refusals::WRONG_STATE)
     }
 }

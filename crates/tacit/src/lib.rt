@@ -34,7 +34,7 @@ use session::Session;
 pub extern "C" fn tacit_initialization(lent: &mut [u8], area: &[u8]) -> Answer
     ensures { λ r. ⌜ Carried (step (decoded (now (lent .entry))) (Initialization (now (area .entry)) allApplications)) (now (lent .entry)) r (now (lent .exit)) ⌝ }
 {
-    let after = record::decoded(lent).initialization_unlimited(area);
+    let after = record::decoded(lent).initialization(area);
     record::carry(lent, after)
 }
 

@@ -12,4 +12,4 @@ returns c =
 
 pub event-in-spec : {M : Type 1} → statement M
 event-in-spec =
-    tie.close (tie.spec (λ c κs. search needs) (λ c κs. search needs) (λ c κs. search needs) (λ c. search needs) returns)
+    tie.close (tie.spec (λ c κs. c .before .before .pre) (λ c κs. search needs) (λ c κs. search needs) (λ c. search needs) returns)

@@ -4,7 +4,7 @@ use Rattle.tacit.proofs.tacit_initialization.Statement.{statement}
 use Rattle.tacit.proofs.tacit_initialization.Tie as tie
 
 returns : tie.Need-returns
-returns c = simp (c .before .before .before .before .initialization-unlimited .ensures, c .before .before .before .before .before .decoded .ensures) at (c .before .before .carry .ensures)
+returns c = simp (c .before .before .before .before .initialization .ensures, c .before .before .before .before .before .decoded .ensures) at (c .before .before .carry .ensures)
 
 pub tacit-initialization-spec : {M : Type 1} → statement M
 tacit-initialization-spec =

@@ -52,6 +52,7 @@ use denote.Exit.{yes}
 use Rattle.session.specs.declared.Session.{Session}
 use Rattle.session.specs.declared.Answer.{Answer}
 use Rattle.session.specs.declared.After.{After}
+use Rattle.session.specs.Session.{sound as soundSession}
 use Rattle.session.specs.With.{noSession}
 use Rattle.session.proofs.Session as T
 use Rattle.session.proofs.Session.Laws as T′
@@ -68,7 +69,7 @@ use Rattle.row.specs.Events.{initializationNumber}
 use Rattle.row.specs.Counting.{decidedBy, roomBy}
 use Rattle.row.specs.Survey.{surveyed}
 use Rattle.row.proofs.Tallied.{outside-answer, outside-row, outside-room}
-use Rattle.row.proofs.Found.{event-found, room-found}
+use Rattle.row.proofs.Found.{sound-found, event-found, room-found}
 use Rattle.row.proofs.Locals.{Blocks, env, locals, holding, enters, leaves, held, var, part, behind, sets, refills, lands-in, retold}
 use Rattle.row.proofs.Walk.{session-size, Lent, Data, session-data, tally-data, low, Good, fits, makes, answered, asks, then-of, after, is-true, is-false}
 use Rattle.row.proofs.EventNumbers as E
@@ -288,10 +289,10 @@ module _ {M : Type 1} (𝓤 : URA M) (H : Heap 𝓤) (A : Atoms 𝓤) (W : Given
     abbrev to-event : Tally → Happening 𝓤 H A mem run .Ghost
     to-event t = (((κ₁, (κ₂, tt)), (q₁, (q₂, tt)), tt, event-arg t, (low session-data e ∷ [], (low tally-data t ∷ [], (low event-data ev ∷ [], (low limits-data li ∷ [], (area-val ∷ [], (room-val ∷ [], tt))))))), tt)
 
-    goes-event : (t : Tally) → Good tally-data t → Good session-data e → ent 𝓤 (⋆ 𝓤 H A (Toks ∷ ‵ Area ∷ ‵ Lent-room ∷ [])) (Happening 𝓤 H A mem run .pre (to-event t))
-    goes-event t good was =
-        qed W (Toks ∷ ‵ Area ∷ ‵ Lent-room ∷ []) ∵ nothing ! $ move ! (3 ∷ 0 ∷ []) $ fjoin ! $ move ! (2 ∷ 0 ∷ []) $ fjoin ! $
-        makes ! limits-data li gli $ fjoin ! $ makes ! event-data ev gev $ fjoin ! $ makes ! tally-data t good $ fjoin ! $ makes ! session-data e was $ fjoin ! $ move ! (1 ∷ 0 ∷ []) $ join ! $ frame ! $ nothing ! $ done !
+    goes-event : (t : Tally) → (t .sound ≡ true → soundSession e ≡ true) → Good tally-data t → Good session-data e → ent 𝓤 (⋆ 𝓤 H A (Toks ∷ ‵ Area ∷ ‵ Lent-room ∷ [])) (Happening 𝓤 H A mem run .pre (to-event t))
+    goes-event t is-sound good was =
+        qed W (Toks ∷ ‵ Area ∷ ‵ Lent-room ∷ []) ∵ says ! is-sound $ nothing ! $ move ! (3 ∷ 0 ∷ []) $ fjoin ! $ move ! (2 ∷ 0 ∷ []) $ fjoin ! $
+        makes ! limits-data li gli $ fjoin ! $ makes ! event-data ev gev $ fjoin ! $ makes ! tally-data t good $ fjoin ! $ makes ! session-data e was $ fjoin ! $ move ! (1 ∷ 0 ∷ []) $ join ! $ done !
 
     module _ (𝓣 : Tables 𝓤 H) (known : Known 𝓤 H A mem run 𝓣) (bs : Blocks (code.function .locals)) where
       abbrev En : Env 𝓤 H
@@ -328,7 +329,7 @@ module _ {M : Type 1} (𝓤 : URA M) (H : Heap 𝓤) (A : Atoms 𝓤) (W : Given
           sets ! %room-lent (agg ! (and-then ! (var ! %room-ptr refl) (and-then ! (part ! %room 1 refl refl) (no-more !)))) refl (tt, (tt, (record { fits = gr .0 }, tt))) $
           move ! (7 ∷ []) $ use1 W (‵ Area ⊛ ‵ Area) (shr-slice-copy 𝓤 H A W (named 1) κ₁ u8 .twice area (area-val ∷ [])) $ split ! $ move ! (8 ∷ 0 ∷ 9 ∷ []) $
           -- [two tokens; area; room; area; row[i]; what it owns; the others; the open borrow; obs; auth; the locals]
-          use3 W (raw (Happening 𝓤 H A mem run .pre (to-event t))) (goes-event t good was) $
+          use3 W (raw (Happening 𝓤 H A mem run .pre (to-event t))) (goes-event t (λ all. sound-found ys i Counting inside (sym (ap (λ (u : Tally). u .sound) found) ∙ all)) good was) $
           calls-at ! fm (Happening 𝓤 H A mem run) (known .1) (to-event t) (and-then ! (var ! %session refl) (and-then ! (var ! %tally refl) (and-then ! (var ! %event refl) (and-then ! (var ! %limits refl) (and-then ! (var ! %area refl) (and-then ! (var ! %room-lent refl) (no-more !))))))) (λ v.
           answered ! after-data Toks (lasts event.ended (κ₁, (κ₂, tt)) (event-arg t)) (λ r zs. (r ≡ Event-in t) × (zs .1 .1 .1 .1 .1 .0 ≡ Room-in t)) (id⊢ 𝓤 _) (λ r zs said is.
           let ws = zs .1 .1 .1 .1 .1 .0 in let parts = LL.owed Z.the-type Z′.the-laws r (low after-data r ∷ []) is in

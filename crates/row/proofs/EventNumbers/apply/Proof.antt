@@ -10,7 +10,7 @@ use Rattle.row.proofs.EventNumbers.apply.Tie as tie
 
 returns : tie.Need-returns
 unfolding eventOf
-returns c = rw (← c .before .below-limit-by .ensures) (c .initialization .ensures ∙ ap (step (c .before .before .before .before .before .args .s)) (sym (taken _ _ (eq-eqb _ _ (c .before .before .if1 .taken)))))
+returns c = rw (← c .before .below-limit-by .ensures) (c .initialization-when-sound .ensures ∙ ap (step (c .before .before .before .before .before .args .s)) (sym (taken _ _ (eq-eqb _ _ (c .before .before .if1 .taken)))))
 
 returns-2 : tie.Need-returns-2
 unfolding eventOf
