@@ -2,7 +2,7 @@
 
 PREFIX        ?= /usr/local
 DESTDIR       ?=
-VERSION       := 1.2.2
+VERSION       := 1.2.3
 CALLS         ?= 200000
 SEED          ?= 0x7AC17
 

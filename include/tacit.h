@@ -69,8 +69,8 @@ extern "C" {
 /* ------------------------------------------------------------------------ */
 
 /* The version of this header and its library, to be compared, and for a log. */
-#define TACIT_VERSION      10202 /* 1.2.2: two digits for each number behind the first */
-#define TACIT_VERSION_TEXT "1.2.2"
+#define TACIT_VERSION      10203 /* 1.2.3: two digits for each number behind the first */
+#define TACIT_VERSION_TEXT "1.2.3"
 
 #define TACIT_RECORD_LENGTH  22   /* octets of a record */
 #define TACIT_MESSAGE_LENGTH 17   /* octets of a message that we write */
