@@ -100,8 +100,6 @@ row-determined =
     record {
       no-limits = by-equation _;
       limited = by-equation _;
-      empty = by-equation _;
-      tally = by-equation _;
       count-by = by-equation _;
       event-in = λ κs. by-law _ (λ a r s p. both-same (p .0) (p .1));
       outside = by-equation _;

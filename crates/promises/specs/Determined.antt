@@ -57,8 +57,6 @@ use Rattle.record.proofs.load.Reads as record-load
 use Rattle.record.proofs.store.Reads as record-store
 use Rattle.row.proofs.Limits.none.Reads as row-none
 use Rattle.row.proofs.Limits.limited.Reads as row-limited
-use Rattle.row.proofs.Tally.empty.Reads as row-empty
-use Rattle.row.proofs.Tally.tally.Reads as row-tally
 use Rattle.row.proofs.Tally.count_by.Reads as row-count-by
 use Rattle.row.proofs.event_in.Reads as row-event-in
 use Rattle.row.proofs.outside.Reads as row-outside
@@ -154,8 +152,6 @@ pub record RecordDetermined : Type 0 where
 pub record RowDetermined : Type 0 where
   pub no-limits : Determined (row-none.Post tt)
   pub limited : Determined (row-limited.Post tt)
-  pub empty : Determined (row-empty.Post tt)
-  pub tally : Determined (row-tally.Post tt)
   pub count-by : Determined (row-count-by.Post tt)
   pub event-in : (κs : _) → Determines (row-event-in.Post κs) (λ r s. both r (s .1 .1 .1 .1 .1 .0 .now))
   pub outside : Determined (row-outside.Post tt)

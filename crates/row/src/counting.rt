@@ -11,7 +11,7 @@ use kinds::TaId;
 
 impl Tally {
     // Before the first session.
-    pub fn empty() -> Tally
+    fn empty() -> Tally
         ensures { λ r. ⌜ r ≡ emptyTally ⌝ }
     {
         Tally {
@@ -21,7 +21,7 @@ impl Tally {
     }
 
     // What a survey comes to: counts only where it counted.
-    pub fn tally(survey: Survey, counting: bool) -> Tally
+    pub(crate) fn tally(survey: Survey, counting: bool) -> Tally
         ensures { λ r. ⌜ r ≡ tallyBy counting survey ⌝ }
     {
         let sound = survey.sound;

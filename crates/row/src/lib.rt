@@ -63,9 +63,9 @@ pub struct Tally {
 }
 
 // What the pass keeps while it goes: whether all so far are sound, and how many use each application, in planes.
-pub struct Survey {
-    pub sound: bool,
-    pub planes: [u16; PLANES],
+pub(crate) struct Survey {
+    pub(crate) sound: bool,
+    pub(crate) planes: [u16; PLANES],
 }
 
 // The event of one session of the row, decided by what the pass over all of them found, and then what it writes.
