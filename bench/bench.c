@@ -60,6 +60,9 @@ static uint8_t record[TACIT_RECORD_LENGTH], room[TACIT_MESSAGE_LENGTH];
 static struct tacit_session sessions[TACIT_ROW_MOST];
 static struct tacit_limits limits;
 
+static const struct tacit_settings settings = {
+    .initiating = true, .active = true, .uses_tac = true, .enabled = 0x48, .first_number = 1};
+
 /* A TAC of so many elements, whose TA-Ids are those from `first` to `last`, again and again. */
 static void prepare_tac(struct area *area, unsigned elements, unsigned first, unsigned last)
 {
@@ -87,7 +90,7 @@ static void prepare_all(void)
         memcpy(next, (const uint8_t[]){0x86, 0, 0, 0}, 4);
     thousand_tlvs.length = (size_t)(next - thousand_tlvs.octets);
     /* Sessions that enable 4 and 7, one of them opened by the six TLVs. */
-    tacit_create(ready, sizeof ready, true, true, true, false, 0, 0x48, 1);
+    tacit_create(ready, sizeof ready, settings);
     memcpy(opened, ready, sizeof opened);
     tacit_initialization(opened, sizeof opened, six.octets, six.length);
     limits = tacit_set_limit(tacit_no_limits(), 4, 2).limits;
@@ -103,11 +106,14 @@ struct row {
     unsigned long times; /* calls that make a count */
     const uint8_t *from; /* the record before each call, and the row's last session */
     const struct area *area;
-    struct given given; /* all but octets, sessions and limits */
+    struct given given; /* all but octets, sessions, limits and settings */
 };
 
 /* A row of so many sessions, and the call for the last of them. */
 #define IN_ROW(count) .lent[ROW].length = (count) * SESSION_OCTETS, .at = (count) - 1
+
+/* Wishes for no bindings of prefixes. */
+enum { PREFIXES = TACIT_SAC_SET(TACIT_SAC_IPV4_PREFIX) | TACIT_SAC_SET(TACIT_SAC_IPV6_PREFIX) };
 
 static const struct row rows[] = {
     {"read-frr", "read, FRR's parameters (15 octets)", 10000, ready, &frr, {.call = READ}},
@@ -151,13 +157,19 @@ static const struct row rows[] = {
     {"hello", "Hello, recorded", 10000, opened, &none, {.call = HELLO, .number = 5}},
     {"mismatch", "mismatch notification", 10000, opened, &none, {.call = MISMATCH}},
     {"closed", "connection closed", 10000, opened, &none, {.call = CLOSED}},
-    {"create", "creation", 10000, ready, &none,
-     {.call = CREATE, .initiating = true, .active = true, .uses_tac = true, .enabled = 0x48,
-      .first_number = 1}},
+    {"create", "creation", 10000, ready, &none, {.call = CREATE}},
     {"permitted", "permitted, one kind", 10000, opened, &none, {.call = PERMITTED}},
     {"kinds", "permitted, all kinds", 10000, opened, &none, {.call = PERMITTED_KINDS}},
     {"why-not", "why not, a permitted kind", 10000, opened, &none,
      {.call = WHY_NOT, .kind = TACIT_KIND_GENERALIZED_PWID}},
+    {"wish", "wish, 14 octets written", 10000, opened, &none,
+     {.call = WISH, .app = TACIT_SAC_IPV4_PREFIX, .disable = true}},
+    {"wish-sac-2", "SAC for an Initialization, two wishes", 10000, ready, &none,
+     {.call = WISH_SAC, .wishes = PREFIXES}},
+    {"wish-sac-4", "SAC for an Initialization, four wishes", 10000, ready, &none,
+     {.call = WISH_SAC, .wishes = TACIT_ALL_SAC}},
+    {"wanted", "wanted, one kind", 10000, ready, &none,
+     {.call = WANTED, .wishes = PREFIXES, .kind = TACIT_KIND_GENERALIZED_PWID}},
     {"retry", "retry interval", 10000, opened, &none, {.call = RETRY_INTERVAL}},
     {"sound", "sound", 10000, opened, &none, {.call = SOUND}},
     {"load", "load", 10000, opened, &none, {.call = LOAD}},
@@ -198,6 +210,7 @@ static void run(const struct who *who, const struct row *row, unsigned long time
         [RECORD] = record, [AREA] = (void *)row->area->octets, [ROOM] = room, [ROW] = sessions};
     struct given given = row->given;
     given.limits = limits;
+    given.settings = settings;
     given.session = tacit_load(row->from, sizeof record).session;
     given.lent[RECORD].length = sizeof record;
     given.lent[AREA].length = row->area->length;

@@ -2,8 +2,8 @@
  * plain.c - the calls of the library in plain C, without a proof
  *
  * What a call takes is measured by this one (bench), and the comparison has it for a
- * third opinion (tests/compare). The rules are those of document 01, of its request
- * L1 and of tacit.h; no code is shared with the library or the second program.
+ * third opinion (tests/compare). The rules are those of document 01, of the requests
+ * L1 and L2 and of tacit.h; no code is shared with the library or the second program.
  */
 #include "calls.h"
 
@@ -37,11 +37,16 @@ static inline void put_be32(uint8_t *to, uint32_t number)
 /* Applications and kinds                                                  */
 /* ---------------------------------------------------------------------- */
 
-enum { KINDS = 10, SAC_APPS = 4, ALL_SAC_APPS = 0x0F };
+enum { KINDS = 10, SAC_APPS = 4 };
 
 static inline bool is_application(uint32_t ta_id)
 {
     return ta_id >= 1 && ta_id <= TACIT_APPLICATIONS;
+}
+
+static inline bool is_sac_app(uint32_t app)
+{
+    return app >= 1 && app <= SAC_APPS;
 }
 
 /* The applications that open a kind. */
@@ -129,7 +134,7 @@ static inline uint8_t state_after_mismatch(unsigned flags)
 
 static inline bool has_spare_bits(const struct tacit_session *session)
 {
-    return (session->flags & SPARE) != 0 || (session->disabled & ~ALL_SAC_APPS) != 0 ||
+    return (session->flags & SPARE) != 0 || (session->disabled & ~TACIT_ALL_SAC) != 0 ||
            ((session->enabled | session->listed) & ~TACIT_ALL_APPS) != 0 ||
            (session->protects & ~TACIT_ALL_KINDS) != 0;
 }
@@ -216,6 +221,11 @@ static inline bool read_record(struct tacit_session *session, const uint8_t *rec
     return is_sound(session);
 }
 
+static inline void update_next(uint8_t *record, const struct tacit_session *session)
+{
+    memcpy(record + 18, &session->next, 4);
+}
+
 /* Writes what an event may change. */
 static inline void update_record(uint8_t *record, const struct tacit_session *session)
 {
@@ -225,7 +235,7 @@ static inline void update_record(uint8_t *record, const struct tacit_session *se
     memcpy(record + 8, &session->listed, 2);
     record[12] = session->disabled;
     memcpy(record + 14, &session->hello, 4);
-    memcpy(record + 18, &session->next, 4);
+    update_next(record, session);
 }
 
 static inline void write_record(uint8_t *record, const struct tacit_session *session)
@@ -353,7 +363,7 @@ static unsigned changed_by_tac(unsigned listed, const uint8_t *tac, size_t lengt
 static inline unsigned app_at(const uint8_t *element)
 {
     unsigned app = *element >> 4 & 7u;
-    return app >= 1 && app <= SAC_APPS ? 1u << (app - 1) : 0;
+    return is_sac_app(app) ? TACIT_SAC_SET(app) : 0;
 }
 
 /* The Apps that the SAC of an Initialization disables: D = 0 does nothing there. */
@@ -495,15 +505,27 @@ static inline struct tacit_answer capability(struct tacit_session *session, cons
     return moved(TACIT_DONE, before, permitted_kinds(session));
 }
 
-/* A Capability message with a TAC of one element. */
-static void write_message(uint8_t *room, uint32_t number, uint32_t ta_id, bool on)
+/* A TLV of a capability up to its first element, with S = 1 and so many octets of elements. */
+static inline void begin_tlv(uint8_t *to, unsigned type, unsigned octets)
+{
+    put_be16(to, 0x8000 | type);
+    put_be16(to + 2, 1 + octets);
+    to[HEAD] = 0x80;
+}
+
+/* A Capability message of this length up to its area. */
+static inline void begin_message(uint8_t *room, unsigned length, uint32_t number)
 {
     put_be16(room, 0x0202);
-    put_be16(room + 2, TACIT_MESSAGE_LENGTH - HEAD);
+    put_be16(room + 2, length - HEAD);
     put_be32(room + 4, number);
-    put_be16(room + 8, 0x8000 | TYPE_TAC);
-    put_be16(room + 10, 5);
-    room[12] = 0x80;
+}
+
+/* A Capability message with a TAC of one element. */
+static void write_change(uint8_t *room, uint32_t number, uint32_t ta_id, bool on)
+{
+    begin_message(room, TACIT_MESSAGE_LENGTH, number);
+    begin_tlv(room + TACIT_MESSAGE_AREA, TYPE_TAC, 4);
     put_be16(room + 13, ta_id);
     put_be16(room + 15, on ? 0x8000 : 0);
 }
@@ -536,8 +558,42 @@ static inline struct tacit_answer local_change(struct tacit_session *session, ui
     }
     struct tacit_answer answer = moved(TACIT_DONE, before, permitted_kinds(session));
     answer.written = TACIT_MESSAGE_LENGTH;
-    write_message(room, session->next++, ta_id, on);
+    write_change(room, session->next++, ta_id, on);
     return answer;
+}
+
+static inline uint8_t sac_element(uint32_t app, bool disable)
+{
+    return (uint8_t)((disable ? 0x80 : 0) | app << 4);
+}
+
+/* A Capability message with a SAC of one element. */
+static inline void write_wish(uint8_t *room, uint32_t number, uint32_t app, bool disable)
+{
+    begin_message(room, TACIT_WISH_LENGTH, number);
+    begin_tlv(room + TACIT_MESSAGE_AREA, TYPE_SAC, 1);
+    room[13] = sac_element(app, disable);
+}
+
+/* The wishes too are left alone unless it is done. */
+static inline struct tacit_answer wish(struct tacit_session *session, uint32_t *wishes,
+                                       uint32_t app, bool disable, uint8_t *room, size_t room_len)
+{
+    if ((*wishes & ~TACIT_ALL_SAC) != 0)
+        return refused(TACIT_REFUSED_NOT_SOUND);
+    if (!is_sac_app(app))
+        return refused(TACIT_REFUSED_APP);
+    if (((*wishes & TACIT_SAC_SET(app)) != 0) == disable)
+        return came_to(TACIT_UNCHANGED);
+    if (session->state != TACIT_OPEN)
+        return refused(TACIT_REFUSED_STATE);
+    if (!(session->flags & TACIT_FLAG_PEER_DYNAMIC))
+        return refused(TACIT_REFUSED_NOT_DYNAMIC);
+    if (room_len < TACIT_WISH_LENGTH)
+        return refused(TACIT_REFUSED_ROOM);
+    *wishes ^= TACIT_SAC_SET(app);
+    write_wish(room, session->next++, app, disable);
+    return (struct tacit_answer){.outcome = TACIT_DONE, .written = TACIT_WISH_LENGTH};
 }
 
 static inline struct tacit_answer mismatch(struct tacit_session *session)
@@ -582,22 +638,22 @@ struct tacit_reading plain_read(const uint8_t *area, size_t area_len)
     return refusal == TACIT_NOT_REFUSED ? reading : (struct tacit_reading){.refusal = refusal};
 }
 
-uint8_t plain_create(uint8_t *record, size_t record_len, bool initiating, bool active,
-                     bool uses_tac, bool drops, uint32_t protected_kinds, uint32_t enabled,
-                     uint32_t first_number)
+uint8_t plain_create(uint8_t *record, size_t record_len, struct tacit_settings settings)
 {
     if (record_len != TACIT_RECORD_LENGTH)
         return TACIT_REFUSED_NOT_SOUND;
-    if ((protected_kinds & ~TACIT_ALL_KINDS) != 0 || (enabled & ~TACIT_ALL_APPS) != 0)
+    if ((settings.protected_kinds & ~TACIT_ALL_KINDS) != 0 ||
+        (settings.enabled & ~TACIT_ALL_APPS) != 0 || (settings.wishes & ~TACIT_ALL_SAC) != 0)
         return TACIT_REFUSED_NUMBER;
     struct tacit_session session = {
         .state = TACIT_READY,
-        .flags = (uint8_t)((initiating ? TACIT_FLAG_INITIATING : 0) |
-                           (active ? TACIT_FLAG_ACTIVE : 0) |
-                           (uses_tac ? TACIT_FLAG_USES_TAC : 0) | (drops ? TACIT_FLAG_DROPS : 0)),
-        .enabled = (uint16_t)enabled,
-        .protects = (uint16_t)protected_kinds,
-        .next = first_number,
+        .flags = (uint8_t)((settings.initiating ? TACIT_FLAG_INITIATING : 0) |
+                           (settings.active ? TACIT_FLAG_ACTIVE : 0) |
+                           (settings.uses_tac ? TACIT_FLAG_USES_TAC : 0) |
+                           (settings.drops ? TACIT_FLAG_DROPS : 0)),
+        .enabled = (uint16_t)settings.enabled,
+        .protects = (uint16_t)settings.protected_kinds,
+        .next = settings.first_number,
     };
     write_record(record, &session);
     return TACIT_NOT_REFUSED;
@@ -706,6 +762,49 @@ struct tacit_reason plain_why_not(const uint8_t *record, size_t record_len, uint
 }
 
 /* ---------------------------------------------------------------------- */
+/* Our wishes                                                              */
+/* ---------------------------------------------------------------------- */
+
+/* Of the record it is the message number alone that a wish changes. */
+struct tacit_wished plain_wish(uint8_t *record, size_t record_len, uint32_t wishes, uint32_t app,
+                               bool disable, uint8_t *room, size_t room_len)
+{
+    struct tacit_session session;
+    if (!read_record(&session, record, record_len))
+        return (struct tacit_wished){refused(TACIT_REFUSED_NOT_SOUND), wishes};
+    struct tacit_answer answer = wish(&session, &wishes, app, disable, room, room_len);
+    if (answer.written != 0)
+        update_next(record, &session);
+    return (struct tacit_wished){answer, wishes};
+}
+
+struct tacit_written plain_wish_sac(uint32_t wishes, uint8_t *room, size_t room_len)
+{
+    if ((wishes & ~TACIT_ALL_SAC) != 0)
+        return (struct tacit_written){.refusal = TACIT_REFUSED_NOT_SOUND};
+    if (wishes == 0)
+        return (struct tacit_written){.written = 0};
+    unsigned elements = (wishes & 1) + (wishes >> 1 & 1) + (wishes >> 2 & 1) + (wishes >> 3);
+    if (room_len < HEAD + 1 + elements)
+        return (struct tacit_written){.refusal = TACIT_REFUSED_ROOM};
+    begin_tlv(room, TYPE_SAC, elements);
+    uint8_t *next = room + HEAD + 1;
+    for (unsigned app = 1; app <= SAC_APPS; app++)
+        if (wishes & TACIT_SAC_SET(app))
+            *next++ = sac_element(app, true);
+    return (struct tacit_written){.written = (uint16_t)(HEAD + 1 + elements)};
+}
+
+struct tacit_want plain_wanted(uint32_t wishes, uint32_t kind)
+{
+    if ((wishes & ~TACIT_ALL_SAC) != 0)
+        return (struct tacit_want){.refusal = TACIT_REFUSED_NOT_SOUND};
+    if (kind >= KINDS)
+        return (struct tacit_want){.refusal = TACIT_REFUSED_NUMBER};
+    return (struct tacit_want){.wanted = (controlled_by(wishes) >> kind & 1) == 0};
+}
+
+/* ---------------------------------------------------------------------- */
 /* Calls for rows of sessions                                              */
 /* ---------------------------------------------------------------------- */
 
@@ -756,6 +855,15 @@ struct tacit_retry plain_session_retry(struct tacit_session session)
     if (!is_sound(&session))
         return (struct tacit_retry){.refusal = TACIT_REFUSED_NOT_SOUND};
     return (struct tacit_retry){.interval = retry_interval(&session)};
+}
+
+struct tacit_wished plain_session_wish(struct tacit_session *session, uint32_t wishes,
+                                       uint32_t app, bool disable, uint8_t *room, size_t room_len)
+{
+    if (!is_sound(session))
+        return (struct tacit_wished){refused(TACIT_REFUSED_NOT_SOUND), wishes};
+    struct tacit_answer answer = wish(session, &wishes, app, disable, room, room_len);
+    return (struct tacit_wished){answer, wishes};
 }
 
 /* The refusal of a row, asked for its session with this number. */

@@ -6,8 +6,8 @@
  * in daemon.txt. docs/DAEMON.md says what a daemon does, and why.
  *
  * What is small here: Common Session Parameters are sent and not tested, no timer
- * runs, labels are a set of kinds, a Hello is a call, and neither end is one that
- * goes to Gone.
+ * runs, labels are a set of kinds and none arrives, a Hello is a call, and neither end
+ * is one that goes to Gone.
  */
 #define _POSIX_C_SOURCE 200809L
 
@@ -65,6 +65,7 @@ struct end {
     bool active;
     uint8_t identifier[IDENTIFIER];
     uint8_t record[TACIT_RECORD_LENGTH];
+    uint32_t wishes;     /* the Apps of which we want no bindings */
     uint32_t sequence;   /* our Hellos' configuration sequence number */
     uint32_t next;       /* our next message's number; the library's begin at LIBRARY_FIRST */
     bool adjacent;       /* the peer's Hellos arrive */
@@ -253,11 +254,13 @@ static void send_initialization(struct end *end)
     /* Version 1, KeepAlive time 180, PDUs of 4,096 octets; then the receiver. */
     static const uint8_t session[] = {0x05, 0x00, 0, 14, 0, 1, 0, 180, 0, 0, 0x10, 0x00};
     static const uint8_t dynamic[] = {0x85, 0x06, 0, 1, 0x80};
+    uint8_t sac[TACIT_SAC_MOST];
     struct message message = message_of(end, INITIALIZATION);
     add(&message, session, sizeof session);
     add(&message, peer_of(end)->identifier, IDENTIFIER);
     add(&message, dynamic, sizeof dynamic);
     add_tac(&message, tacit_load(end->record, sizeof end->record).session.enabled);
+    add(&message, sac, tacit_wish_sac(end->wishes, sac, sizeof sac).written);
     send_message(end, "Initialization", &message);
 }
 
@@ -555,16 +558,23 @@ static void say_hello(const struct end *end)
     hear_hello(peer_of(end), end->sequence);
 }
 
+/* From the first Initialization on what the operator wants has to wait. */
+static bool puts_off(const struct end *end, const char *event)
+{
+    bool opening = end->connection.fd >= 0 && !end->connection.operational;
+    if (opening)
+        log_deed(end, "puts off until it is operational:", event);
+    return opening;
+}
+
 /* Answers whether the change was made. */
 static bool change(struct end *end, uint32_t ta_id, bool on)
 {
     uint8_t room[TACIT_MESSAGE_LENGTH];
     char event[48];
     snprintf(event, sizeof event, "%s %s", tacit_application_text(ta_id), on ? "on" : "off");
-    if (end->connection.fd >= 0 && !end->connection.operational) {
-        log_deed(end, "puts off until it is operational:", event);
+    if (puts_off(end, event))
         return false;
-    }
     struct tacit_answer answer =
         tacit_local_change(end->record, sizeof end->record, ta_id, on, room, sizeof room);
     log_answer(end, event, answer);
@@ -577,6 +587,28 @@ static bool change(struct end *end, uint32_t ta_id, bool on)
     say_hello(end);
     connect_if_ready(end);
     return true;
+}
+
+/* Which bindings the operator wants. Where no message can say it the next Initialization will. */
+static void wish(struct end *end, uint32_t app, bool disable)
+{
+    uint8_t room[TACIT_WISH_LENGTH];
+    char event[48];
+    snprintf(event, sizeof event, "%s %s", disable ? "stop" : "take again",
+             tacit_sac_app_text(app));
+    if (puts_off(end, event))
+        return;
+    struct tacit_wished wished = tacit_wish(end->record, sizeof end->record, end->wishes, app,
+                                            disable, room, sizeof room);
+    uint8_t refusal = wished.answer.refusal;
+    log_answer(end, event, wished.answer);
+    end->wishes = wished.wishes;
+    if (wished.answer.written != 0)
+        send_octets(end, "Capability", room, wished.answer.written);
+    if (refusal == TACIT_REFUSED_STATE || refusal == TACIT_REFUSED_NOT_DYNAMIC)
+        end->wishes ^= TACIT_SAC_SET(app);
+    if (refusal == TACIT_REFUSED_NOT_DYNAMIC)
+        notify(end, SHUT_DOWN, NULL); /* only a new session can tell this peer */
 }
 
 /* ---- The story ---- */
@@ -622,10 +654,15 @@ static void begin(void)
     puts("after an answer, what happened and what the library answered; or what the");
     puts("daemon did. Both support LDPv4 Remote LFA and FEC 129 PW.");
     for (int i = 0; i < 2; i++) {
+        struct tacit_settings settings = {.initiating = ends[i]->active,
+                                          .active = ends[i]->active,
+                                          .uses_tac = true,
+                                          .enabled = enabled,
+                                          .first_number = LIBRARY_FIRST,
+                                          .wishes = ends[i]->wishes};
         ends[i]->connection.fd = -1;
         ends[i]->sequence = ends[i]->next = 1;
-        expect(tacit_create(ends[i]->record, sizeof ends[i]->record, ends[i]->active,
-                            ends[i]->active, true, false, 0, enabled, LIBRARY_FIRST) == 0,
+        expect(tacit_create(ends[i]->record, sizeof ends[i]->record, settings) == 0,
                "a session is created");
     }
 }
@@ -691,6 +728,31 @@ static void a_broken_message(void)
     expect_both(TACIT_OPEN, pseudowires);
 }
 
+/* Of what is common now, the pseudowires. */
+static void a_wish(void)
+{
+    step("West's operator wants no bindings of FEC 129 pseudowires");
+    wish(&west, TACIT_SAC_FEC129_PW, true);
+    run();
+    expect(permitted(&east) == 0 && east.advertised == 0, "east has withdrawn its labels");
+    expect(permitted(&west) == pseudowires, "west may send its own");
+
+    step("The connection is lost and comes back, and the wish stays");
+    hang_up(&west);
+    run();
+    connect_if_ready(&west);
+    run();
+    expect(permitted(&east) == 0 && east.advertised == 0, "east has been told again");
+
+    step("It is lost once more, and meanwhile west's operator takes them again");
+    hang_up(&west);
+    run();
+    wish(&west, TACIT_SAC_FEC129_PW, false);
+    connect_if_ready(&west);
+    run();
+    expect_both(TACIT_OPEN, pseudowires);
+}
+
 int main(void)
 {
     begin();
@@ -699,6 +761,7 @@ int main(void)
     ends_in_a_mismatch();
     wakes_by_a_hello();
     a_broken_message();
+    a_wish();
     if (unexpected == 0)
         puts("\nAll as expected.");
     else

@@ -111,6 +111,17 @@ static uint32_t set_of(const uint8_t *list, size_t count)
     return set;
 }
 
+/* A fresh session that supports this list. The active end is the initiating one here. */
+static bool create(uint8_t *record, const uint8_t *list, size_t count, bool active)
+{
+    struct tacit_settings settings = {.initiating = active,
+                                      .active = active,
+                                      .uses_tac = true,
+                                      .enabled = set_of(list, count),
+                                      .first_number = 1};
+    return tacit_create(record, TACIT_RECORD_LENGTH, settings) == 0;
+}
+
 /* The parameters of an Initialization: a dynamic peer and its list. */
 static size_t initialization_area(uint8_t *area, const uint8_t *list, size_t count)
 {
@@ -168,8 +179,7 @@ static size_t paired_by_position(uint8_t *pairs)
 /* West's session where of east's list these alone are read; the kinds that it permits. */
 static uint32_t open_with(uint8_t *record, const uint8_t *list, size_t count)
 {
-    tacit_create(record, TACIT_RECORD_LENGTH, true, true, true, false, 0,
-                 set_of(west_list, COUNT(west_list)), 1);
+    create(record, west_list, COUNT(west_list), true);
     initialize(record, list, count);
     return tacit_permitted_kinds(record, TACIT_RECORD_LENGTH).kinds;
 }
@@ -198,10 +208,8 @@ int main(void)
     step("The lists, each in its own order");
     print_applications("west", west_list, COUNT(west_list));
     print_applications("east", east_list, COUNT(east_list));
-    expect(tacit_create(west, sizeof west, true, true, true, false, 0,
-                        set_of(west_list, COUNT(west_list)), 1) == 0 &&
-               tacit_create(east, sizeof east, false, false, true, false, 0,
-                            set_of(east_list, COUNT(east_list)), 1) == 0,
+    expect(create(west, west_list, COUNT(west_list), true) &&
+               create(east, east_list, COUNT(east_list), false),
            "both sessions are created");
     puts("   East's Hello has configuration number 41.");
     print_answer(tacit_hello(west, sizeof west, 41));

@@ -130,8 +130,8 @@ static void begin(void)
     uint8_t record[TACIT_RECORD_LENGTH];
     uint32_t enabled =
         TACIT_APP_SET(TACIT_APP_LDPV4_REMOTE_LFA) | TACIT_APP_SET(TACIT_APP_FEC129_PW);
-    expect(tacit_create(record, sizeof record, false, false, true, false, 0, enabled, 1) == 0,
-           "a session is created");
+    struct tacit_settings settings = {.uses_tac = true, .enabled = enabled, .first_number = 1};
+    expect(tacit_create(record, sizeof record, settings) == 0, "a session is created");
     for (size_t at = 0; at < SESSIONS; at++)
         row[at] = tacit_load(record, sizeof record).session;
     struct tacit_limited set = tacit_set_limit(tacit_no_limits(), TACIT_APP_LDPV4_REMOTE_LFA, 2);

@@ -5,7 +5,8 @@
  * Control (SAC, RFC 7473). The library reads the optional parameters of
  * Initialization and Capability messages, keeps the session's state, says which
  * kinds of label may be sent, and writes the Capability message for a change
- * made at this end. TCP, timers, Hello and Notification octets, the PDU header,
+ * made at this end and for a wish of its own: kinds that the peer is to send no
+ * bindings of. TCP, timers, Hello and Notification octets, the PDU header,
  * addresses and the label database stay with the daemon.
  *
  * This is the manual of the calls. docs/DAEMON.md says how a daemon drives them
@@ -30,7 +31,7 @@
  *   need be checked before.
  * - A buffer is a pointer and a length in octets. Any alignment will do. With
  *   length 0 the pointer may be NULL.
- * - A refusal is a number from 1 to 12 (enum tacit_refusal); 0 is none. It has a
+ * - A refusal is a number of enum tacit_refusal; 0 is none. It has a
  *   field of its own and is never mixed with a result. A refused call leaves
  *   every buffer exactly as it was, and all other fields of its answer are 0,
  *   except where the call says what they are instead.
@@ -69,12 +70,14 @@ extern "C" {
 /* ------------------------------------------------------------------------ */
 
 /* The version of this header and its library, to be compared, and for a log. */
-#define TACIT_VERSION      10203 /* 1.2.3: two digits for each number behind the first */
-#define TACIT_VERSION_TEXT "1.2.3"
+#define TACIT_VERSION      20000 /* 2.0.0: two digits for each number behind the first */
+#define TACIT_VERSION_TEXT "2.0.0"
 
 #define TACIT_RECORD_LENGTH  22   /* octets of a record */
-#define TACIT_MESSAGE_LENGTH 17   /* octets of a message that we write */
-#define TACIT_MESSAGE_AREA    8   /* where in it the parameter area starts, to its end */
+#define TACIT_MESSAGE_LENGTH 17   /* octets of the message of a local change */
+#define TACIT_WISH_LENGTH    14   /* octets of the message of a wish */
+#define TACIT_MESSAGE_AREA    8   /* where in either the parameter area starts, to its end */
+#define TACIT_SAC_MOST        9   /* octets of the SAC for an Initialization, at the most */
 #define TACIT_AREA_MOST      4096 /* octets that an area may have */
 #define TACIT_ROW_MOST       64   /* sessions that a row may have */
 #define TACIT_LIMIT_MOST     64   /* the highest limit, and the one until another is set */
@@ -98,16 +101,19 @@ enum tacit_refusal {
     TACIT_REFUSED_NUMBER      = 6,  /* not a TA-Id (1 to 13), not a kind (0 to 9), or a set
                                        with a bit that is none of these */
     TACIT_REFUSED_STATE       = 7,  /* the event is not for the state of the session */
-    TACIT_REFUSED_ROOM        = 8,  /* there is a message to write, and fewer than 17
-                                       octets of room */
+    TACIT_REFUSED_ROOM        = 8,  /* there is something to write, and fewer octets of room
+                                       than it has: 17 for a local change, 14 for a
+                                       wish, 6 to 9 for the SAC of an Initialization */
     TACIT_REFUSED_NOT_DYNAMIC = 9,  /* there is a message to write, and the peer takes no
                                        Capability messages */
     TACIT_REFUSED_NOT_SOUND   = 10, /* the record, the session or any session of the row
                                        is not sound (see tacit_sound); at creation and
-                                       at tacit_store, record_len is not 22 */
+                                       at tacit_store, record_len is not 22; kept
+                                       wishes with a bit that is no App's */
     TACIT_REFUSED_ROW         = 11, /* the row is empty or has more than 64 sessions, or
                                        the row number is outside it */
-    TACIT_REFUSED_LIMIT       = 12  /* a limit to be set is over 64 */
+    TACIT_REFUSED_LIMIT       = 12, /* a limit to be set is over 64 */
+    TACIT_REFUSED_APP         = 15  /* not a SAC App (1 to 4) */
 };
 
 /* What an event came to. */
@@ -186,6 +192,20 @@ enum tacit_application {
 #define TACIT_APP_SET(ta_id) (UINT32_C(1) << ((ta_id) - 1)) /* the set of this one, 1 to 13 */
 #define TACIT_ALL_APPS       UINT32_C(0x1FFF)
 
+/*
+ * SAC Apps, and the kind that each controls. In a set of Apps, App n is bit n-1.
+ * These are no TA-Ids.
+ */
+enum tacit_sac_app {
+    TACIT_SAC_IPV4_PREFIX = 1,  /* kind 0 */
+    TACIT_SAC_IPV6_PREFIX = 2,  /* kind 1 */
+    TACIT_SAC_FEC128_PW   = 3,  /* kind 7 */
+    TACIT_SAC_FEC129_PW   = 4   /* kind 8 */
+};
+
+#define TACIT_SAC_SET(app) (UINT32_C(1) << ((app) - 1)) /* the set of this one, 1 to 4 */
+#define TACIT_ALL_SAC      UINT32_C(0x0F)
+
 /* ------------------------------------------------------------------------ */
 /* The record                                                                */
 /* ------------------------------------------------------------------------ */
@@ -244,7 +264,41 @@ struct tacit_answer {
     uint8_t outcome;   /* enum tacit_outcome */
     uint16_t lost;     /* kinds permitted before and not after: withdraw their labels */
     uint16_t gained;   /* kinds permitted after and not before: send their labels */
-    uint16_t written;  /* octets written to the room from its start: 0 or 17 */
+    uint16_t written;  /* octets written to the room from its start: 0, 17, or 14 for a wish */
+};
+
+/*
+ * What is settled when a session is created. Name the fields that you set, as in
+ * {.active = true, .enabled = ..}: the others are then false or 0, and so will be
+ * a field that a later version adds.
+ */
+struct tacit_settings {
+    bool initiating;           /* this end began the extended discovery; else it responds */
+    bool active;               /* this end opens the connection; else it is passive */
+    bool uses_tac;             /* negotiate by TAC; if false a peer's TAC has no effect */
+    bool drops;                /* on a mismatch an initiating, active end goes to Gone, not
+                                  to Held; of no effect at any other end */
+    uint32_t protected_kinds;  /* the set of kinds that Session Protection opens */
+    uint32_t enabled;          /* the set of applications that this end supports */
+    uint32_t first_number;     /* the number of the first message that we write */
+    uint32_t wishes;           /* the set of Apps of which we want no bindings */
+};
+
+/* What a wish did, and the wishes to keep from then on. */
+struct tacit_wished {
+    struct tacit_answer answer;
+    uint32_t wishes;  /* refused, as they were handed in, all 32 bits */
+};
+
+/* Octets written by themselves, with no session. */
+struct tacit_written {
+    uint8_t refusal;
+    uint16_t written;  /* octets written to the room from its start */
+};
+
+struct tacit_want {
+    uint8_t refusal;
+    uint8_t wanted;  /* 1: our wishes do not disable this kind */
 };
 
 struct tacit_permission {
@@ -343,6 +397,24 @@ TACIT_ASSERT(offsetof(struct tacit_answer, outcome) == 1);
 TACIT_ASSERT(offsetof(struct tacit_answer, lost) == 2);
 TACIT_ASSERT(offsetof(struct tacit_answer, gained) == 4);
 TACIT_ASSERT(offsetof(struct tacit_answer, written) == 6);
+TACIT_ASSERT(sizeof(struct tacit_settings) == 20);
+TACIT_ASSERT(offsetof(struct tacit_settings, initiating) == 0);
+TACIT_ASSERT(offsetof(struct tacit_settings, active) == 1);
+TACIT_ASSERT(offsetof(struct tacit_settings, uses_tac) == 2);
+TACIT_ASSERT(offsetof(struct tacit_settings, drops) == 3);
+TACIT_ASSERT(offsetof(struct tacit_settings, protected_kinds) == 4);
+TACIT_ASSERT(offsetof(struct tacit_settings, enabled) == 8);
+TACIT_ASSERT(offsetof(struct tacit_settings, first_number) == 12);
+TACIT_ASSERT(offsetof(struct tacit_settings, wishes) == 16);
+TACIT_ASSERT(sizeof(struct tacit_wished) == 12);
+TACIT_ASSERT(offsetof(struct tacit_wished, answer) == 0);
+TACIT_ASSERT(offsetof(struct tacit_wished, wishes) == 8);
+TACIT_ASSERT(sizeof(struct tacit_written) == 4);
+TACIT_ASSERT(offsetof(struct tacit_written, refusal) == 0);
+TACIT_ASSERT(offsetof(struct tacit_written, written) == 2);
+TACIT_ASSERT(sizeof(struct tacit_want) == 2);
+TACIT_ASSERT(offsetof(struct tacit_want, refusal) == 0);
+TACIT_ASSERT(offsetof(struct tacit_want, wanted) == 1);
 TACIT_ASSERT(sizeof(struct tacit_permission) == 2);
 TACIT_ASSERT(offsetof(struct tacit_permission, refusal) == 0);
 TACIT_ASSERT(offsetof(struct tacit_permission, permitted) == 1);
@@ -403,20 +475,12 @@ struct tacit_reading tacit_read(const uint8_t *area, size_t area_len);
  * Makes a fresh session: Ready, no Hello recorded, nothing known of the peer.
  * record_len must be 22; whatever stood there is overwritten.
  *
- *   initiating       this end began the extended discovery; else it responds
- *   active           this end opens the connection; else it is passive
- *   uses_tac         negotiate by TAC; if false a peer's TAC has no effect
- *   drops            on a mismatch an initiating, active end goes to Gone, not
- *                    to Held; of no effect at any other end
- *   protected_kinds  the set of kinds that Session Protection opens
- *   enabled          the set of applications that this end supports
- *   first_number     the number of the first message that we write
+ * The wishes are tested here and not stored: keep them beside the record, and hand
+ * them to tacit_wish, tacit_wish_sac and tacit_wanted.
  *
  * Returns the refusal: 10, 6. Refused, no record is written.
  */
-uint8_t tacit_create(uint8_t *record, size_t record_len, bool initiating, bool active,
-                     bool uses_tac, bool drops, uint32_t protected_kinds, uint32_t enabled,
-                     uint32_t first_number);
+uint8_t tacit_create(uint8_t *record, size_t record_len, struct tacit_settings settings);
 
 /*
  * The peer's Initialization has arrived. For Ready.
@@ -524,6 +588,62 @@ struct tacit_kinds tacit_permitted_kinds(const uint8_t *record, size_t record_le
  * Refusals: 10, 6. Refused, the reason says nothing: look at the refusal first.
  */
 struct tacit_reason tacit_why_not(const uint8_t *record, size_t record_len, uint32_t kind);
+
+/* ------------------------------------------------------------------------ */
+/* Our wishes                                                                */
+/* ------------------------------------------------------------------------ */
+
+/*
+ * Our own disinterest (RFC 7473): the kinds of which the peer is to send us no
+ * bindings. Our wishes are a set of Apps, 1 where the App's kind is to be disabled.
+ * You keep them beside the record, as you keep an address: they are in no record,
+ * no event touches them, and leaving Open does not clear them. They say what the
+ * peer may send and nothing of what we may: no call that is not handed the wishes
+ * asks for them.
+ *
+ * The peer learns them twice: with our Initialization, by the SAC that
+ * tacit_wish_sac writes, and while the session is Open by the message that
+ * tacit_wish writes for each change.
+ */
+
+/*
+ * The operator wants bindings of the App's kind no more (disable), or wants them
+ * again. For Open, but that what is so already is UNCHANGED in every state.
+ *
+ * DONE: a Capability message of 14 octets stands at the start of the room: send
+ * it, and keep the wishes of the answer. It takes the next message number;
+ * nothing else of the session changes, and no kind is lost or gained.
+ *
+ * Not Open (7), or the peer takes no Capability messages (9): there is no message
+ * that could say it now. docs/DAEMON.md, "Our own disinterest", says what to do.
+ *
+ * Refusals: 10, also for wishes with a bit that is no App's; 15, then UNCHANGED, then
+ * 7, 9, 8. Refused, the wishes come back as they were handed in.
+ */
+struct tacit_wished tacit_wish(uint8_t *record, size_t record_len, uint32_t wishes, uint32_t app,
+                               bool disable, uint8_t *room, size_t room_len);
+
+/*
+ * Writes the SAC for an Initialization: a whole TLV of 6 to 9 octets, with an
+ * element for each App that we wish disabled, in rising order. Put it among the
+ * optional parameters. Without such an App there is nothing to put: 0 octets are
+ * written, and any room will do, NULL with length 0 included.
+ *
+ * Refusals: 10 for wishes with a bit that is no App's; 8.
+ */
+struct tacit_written tacit_wish_sac(uint32_t wishes, uint8_t *room, size_t room_len);
+
+/*
+ * A binding of this kind has arrived: is it wanted? Exactly when our wishes do not
+ * disable the kind. A kind that no App controls is always wanted.
+ *
+ * Refusals: 10 for wishes with a bit that is no App's; 6. Refused, it is not wanted.
+ */
+struct tacit_want tacit_wanted(uint32_t wishes, uint32_t kind);
+
+/* ------------------------------------------------------------------------ */
+/* Waiting, and a look at the record                                         */
+/* ------------------------------------------------------------------------ */
 
 /*
  * The session setup retry interval of RFC 8223, for a log or for management. RFC
@@ -672,6 +792,23 @@ static inline struct tacit_retry tacit_session_retry(struct tacit_session sessio
     return tacit_retry_interval(record, sizeof record);
 }
 
+/*
+ * tacit_wish for a session of the row. No other session is looked at. Refused,
+ * every field of the session is as it was.
+ */
+static inline struct tacit_wished tacit_session_wish(struct tacit_session *session,
+                                                     uint32_t wishes, uint32_t app, bool disable,
+                                                     uint8_t *room, size_t room_len)
+{
+    uint8_t record[TACIT_RECORD_LENGTH] = {0};
+    (void)tacit_store(*session, record, sizeof record);
+    struct tacit_wished wished =
+        tacit_wish(record, sizeof record, wishes, app, disable, room, room_len);
+    if (wished.answer.refusal == TACIT_NOT_REFUSED)
+        *session = tacit_load(record, sizeof record).session;
+    return wished;
+}
+
 /* ------------------------------------------------------------------------ */
 /* Words for a log                                                           */
 /* ------------------------------------------------------------------------ */
@@ -692,11 +829,13 @@ static inline const char *tacit_refusal_text(uint32_t refusal)
     case TACIT_REFUSED_REPEATED: return "TLV repeated";
     case TACIT_REFUSED_NUMBER: return "application, kind or set out of range";
     case TACIT_REFUSED_STATE: return "event not for this state";
-    case TACIT_REFUSED_ROOM: return "under 17 octets of room";
+    case TACIT_REFUSED_ROOM: return "too little room for what is to be written";
     case TACIT_REFUSED_NOT_DYNAMIC: return "peer takes no Capability messages";
-    case TACIT_REFUSED_NOT_SOUND: return "record or session not sound, or record not of 22 octets";
+    case TACIT_REFUSED_NOT_SOUND:
+        return "record, session or wishes not sound, or record not of 22 octets";
     case TACIT_REFUSED_ROW: return "row empty or over 64 sessions, or row number outside it";
     case TACIT_REFUSED_LIMIT: return "limit over 64";
+    case TACIT_REFUSED_APP: return "no SAC App";
     default: return "unknown";
     }
 }
@@ -768,6 +907,17 @@ static inline const char *tacit_application_text(uint32_t ta_id)
     case TACIT_APP_MLDP_NODE_PROTECTION: return "mLDP Node Protection";
     case TACIT_APP_IPV4_INTRA_AREA: return "IPv4 intra-area FECs";
     case TACIT_APP_IPV6_INTRA_AREA: return "IPv6 intra-area FECs";
+    default: return "unknown";
+    }
+}
+
+static inline const char *tacit_sac_app_text(uint32_t app)
+{
+    switch (app) {
+    case TACIT_SAC_IPV4_PREFIX: return "IPv4 prefixes";
+    case TACIT_SAC_IPV6_PREFIX: return "IPv6 prefixes";
+    case TACIT_SAC_FEC128_PW: return "FEC 128 pseudowires";
+    case TACIT_SAC_FEC129_PW: return "FEC 129 pseudowires";
     default: return "unknown";
     }
 }

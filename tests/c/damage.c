@@ -21,6 +21,10 @@ static void every_call(const struct record *original)
     record = *original;
     local_change(&record, 7, false, room, sizeof room);
     record = *original;
+    wish(&record, 0, 1, true, room, sizeof room);
+    record = *original;
+    wish(&record, TACIT_ALL_SAC, 4, false, room, sizeof room);
+    record = *original;
     mismatch(&record);
     record = *original;
     hello(&record, 9);
@@ -128,19 +132,29 @@ static void long_ways(void)
     };
     for (unsigned ends = 0; ends < 16; ends++) {
         struct record record = {{0}, TACIT_RECORD_LENGTH};
-        create(&record, ends & 1, ends & 2, ends & 4, ends & 8, 0x101, APP(4) | APP(7) | APP(8),
-               any_number());
+        create(&record,
+               (struct tacit_settings){.initiating = ends & 1, .active = ends & 2,
+                                       .uses_tac = ends & 4, .drops = ends & 8,
+                                       .protected_kinds = 0x101,
+                                       .enabled = APP(4) | APP(7) | APP(8),
+                                       .first_number = any_number()});
+        uint32_t wishes = ends;
         for (int step = 0; step < 300; step++) {
             trying("step %d of a session of sort %u", step, ends);
             const char *text = texts[any_number() % (sizeof texts / sizeof *texts)];
             uint8_t room[20] = {0};
-            switch (any_number() % 8) {
+            switch (any_number() % 9) {
             case 0: mismatch(&record); break;
             case 1: hello(&record, any_number() % 100 + (uint32_t)step); break;
             case 2: closed(&record); break;
             case 3: case 4: capability_text(&record, text); break;
             case 5:
                 local_change(&record, any_number() % 15, any_number() % 2, room, any_number() % 21);
+                break;
+            case 6:
+                wishes = wish(&record, wishes, any_number() % 6, any_number() % 2, room,
+                              any_number() % 21)
+                             .wishes;
                 break;
             default: initialization_text(&record, text); break;
             }
@@ -237,8 +251,12 @@ static void long_ways_of_rows(void)
     unsigned count[TACIT_APPLICATIONS + 1] = {0}, outcomes[4] = {0};
     for (unsigned ends = 0; ends < row.length; ends++) {
         struct record record = {{0}, TACIT_RECORD_LENGTH};
-        create(&record, ends & 1, ends & 2, (ends & 12) != 12, ends & 8, 0x101,
-               APP(4) | APP(7) | APP(8), any_number());
+        create(&record,
+               (struct tacit_settings){.initiating = ends & 1, .active = ends & 2,
+                                       .uses_tac = (ends & 12) != 12, .drops = ends & 8,
+                                       .protected_kinds = 0x101,
+                                       .enabled = APP(4) | APP(7) | APP(8),
+                                       .first_number = any_number()});
         row.at[ends] = session_in(&record);
     }
     for (int step = 0; step < 6000; step++) {

@@ -113,7 +113,9 @@ static void example11(void)
 static void example12(void)
 {
     struct record record = {{0}, TACIT_RECORD_LENGTH};
-    CHECK(create(&record, true, true, true, false, 0, APP(7), 7) == 0);
+    CHECK(create(&record,
+                 (struct tacit_settings){.initiating = true, .active = true, .uses_tac = true,
+                                         .enabled = APP(7), .first_number = 7}) == 0);
     CHECK(initialization_text(&record, "85060001 80 850F0005 80 00078000").outcome == TACIT_DONE);
     uint8_t room[TACIT_MESSAGE_LENGTH] = {0};
     CHECK(local_change(&record, 4, true, room, 16).refusal == 8);
@@ -135,8 +137,11 @@ static void stored(void)
 static void stored_on(void)
 {
     struct record record = {{0}, TACIT_RECORD_LENGTH}, wanted;
-    CHECK(create(&record, true, true, true, false, KIND(1) | KIND(9), APP(7) | APP(8),
-                 0x01020304) == 0);
+    CHECK(create(&record,
+                 (struct tacit_settings){.initiating = true, .active = true, .uses_tac = true,
+                                         .protected_kinds = KIND(1) | KIND(9),
+                                         .enabled = APP(7) | APP(8),
+                                         .first_number = 0x01020304}) == 0);
     hello(&record, 0xA1B2C3D4);
     wanted = record_of("1400 0100 00 47 C000 0000 0202 00 00 D4C3B2A1 04030201");
     CHECK(same_record(&record, &wanted));

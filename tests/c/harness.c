@@ -167,7 +167,9 @@ bool same_record(const struct record *a, const struct record *b)
 struct record fresh(uint32_t enabled)
 {
     struct record record = {{0}, TACIT_RECORD_LENGTH};
-    CHECK(create(&record, true, true, true, false, 0, enabled, 1) == 0);
+    CHECK(create(&record,
+                 (struct tacit_settings){.initiating = true, .active = true, .uses_tac = true,
+                                         .enabled = enabled, .first_number = 1}) == 0);
     return record;
 }
 
@@ -282,15 +284,14 @@ uint32_t kinds(const struct record *record)
     return answer.kinds;
 }
 
-uint8_t create(struct record *record, bool initiating, bool active, bool uses_tac, bool drops,
-               uint32_t protected_kinds, uint32_t enabled, uint32_t first_number)
+uint8_t create(struct record *record, struct tacit_settings settings)
 {
+    bool fits = settings.protected_kinds <= TACIT_ALL_KINDS &&
+                settings.enabled <= TACIT_ALL_APPS && settings.wishes <= TACIT_ALL_SAC;
     uint8_t *lent = lend(RECORD, record->octets, record->length);
-    uint8_t refusal = tacit_create(lent, record->length, initiating, active, uses_tac, drops,
-                                   protected_kinds, enabled, first_number);
+    uint8_t refusal = tacit_create(lent, record->length, settings);
     CHECK(margin_kept(RECORD, record->length));
-    if (record->length != TACIT_RECORD_LENGTH)
-        CHECK(refusal == 10);
+    CHECK(refusal == (record->length != TACIT_RECORD_LENGTH ? 10 : fits ? 0 : 6));
     if (refusal != 0) {
         CHECK(same(lent, record->octets, record->length));
         return refusal;
@@ -485,6 +486,7 @@ int main(void)
     examples();
     rules();
     rows();
+    wishes();
     refusals();
     lengths();
     numbers();
@@ -496,6 +498,7 @@ int main(void)
     examples();
     rules();
     rows();
+    wishes();
     refusals();
     lengths();
     numbers();

@@ -66,8 +66,7 @@ struct record opened(uint32_t enabled, const char *area);
 /* ---- Calls ---- */
 
 struct tacit_reading read_area(const uint8_t *area, size_t length);
-uint8_t create(struct record *record, bool initiating, bool active, bool uses_tac, bool drops,
-               uint32_t protected_kinds, uint32_t enabled, uint32_t first_number);
+uint8_t create(struct record *record, struct tacit_settings settings);
 struct tacit_answer initialization(struct record *record, const uint8_t *area, size_t length);
 struct tacit_answer capability(struct record *record, const uint8_t *area, size_t length);
 struct tacit_answer local_change(struct record *record, uint32_t ta_id, bool on, uint8_t *room,
@@ -141,6 +140,23 @@ struct tacit_answer row_mismatch(struct sessions *row, size_t at);
 struct tacit_answer row_hello(struct sessions *row, size_t at, uint32_t number);
 struct tacit_answer row_closed(struct sessions *row, size_t at);
 
+/* ---- Wishes ---- */
+
+/*
+ * Makes the call by tacit_wish, and by tacit_session_wish where the record holds a
+ * session and nothing beside it. Both must come to what the header says of any call,
+ * down to the octets written. The room has 64 octets at the most.
+ */
+struct tacit_wished wish(struct record *record, uint32_t wishes, uint32_t app, bool disable,
+                         uint8_t *room, size_t room_length);
+
+/* The SAC for these wishes, and whether a kind is wanted: with all that the header says. */
+struct tacit_written wish_sac(uint32_t wishes, uint8_t *room, size_t room_length);
+struct tacit_want is_wanted(uint32_t wishes, uint32_t kind);
+
+/* The kind that an App controls, 1 to 4, without the library. */
+uint32_t kind_of(uint32_t app);
+
 /* ---- Numbers without order ---- */
 
 /* The same ones in every run. */
@@ -151,6 +167,7 @@ uint32_t any_number(void);
 void examples(void);
 void rules(void);
 void rows(void);
+void wishes(void);
 void refusals(void);
 void lengths(void);
 void numbers(void);

@@ -11,13 +11,17 @@
 
 static const char dynamic_fec129[] = "85060001 80 850F0005 80 00078000";
 
+static const struct tacit_settings fec129 = {
+    .initiating = true, .active = true, .uses_tac = true, .enabled = APP(7), .first_number = 1};
+
 static void nothing_at_all(void)
 {
     CHECK(tacit_read(NULL, 0).refusal == 0);
-    CHECK(tacit_create(NULL, 0, true, true, true, false, 0, 0, 0) == 10);
+    CHECK(tacit_create(NULL, 0, fec129) == 10);
     CHECK(tacit_initialization(NULL, 0, NULL, 0).refusal == 10);
     CHECK(tacit_capability(NULL, 0, NULL, 0).refusal == 10);
     CHECK(tacit_local_change(NULL, 0, 1, true, NULL, 0).refusal == 10);
+    CHECK(tacit_wish(NULL, 0, 0, 1, true, NULL, 0).answer.refusal == 10);
     CHECK(tacit_mismatch(NULL, 0).refusal == 10);
     CHECK(tacit_hello(NULL, 0, 1).refusal == 10);
     CHECK(tacit_closed(NULL, 0).refusal == 10);
@@ -29,11 +33,17 @@ static void nothing_at_all(void)
     CHECK(tacit_state(NULL, 0) == TACIT_NO_STATE);
 
     uint8_t record[TACIT_RECORD_LENGTH];
-    CHECK(tacit_create(record, sizeof record, true, true, true, false, 0, APP(7), 0) == 0);
+    CHECK(tacit_create(record, sizeof record, fec129) == 0);
+    CHECK(tacit_wish(record, sizeof record, 1, 1, true, NULL, 0).answer.outcome ==
+          TACIT_UNCHANGED);
+    CHECK(tacit_wish(record, sizeof record, 0, 1, true, NULL, 0).answer.refusal == 7);
+    CHECK(tacit_wish_sac(0, NULL, 0).refusal == 0 && tacit_wish_sac(0, NULL, 0).written == 0);
+    CHECK(tacit_wish_sac(1, NULL, 0).refusal == 8);
     CHECK(tacit_local_change(record, sizeof record, 6, true, NULL, 0).outcome == TACIT_DONE);
     CHECK(tacit_initialization(record, sizeof record, NULL, 0).outcome == TACIT_DONE);
     CHECK(tacit_capability(record, sizeof record, NULL, 0).outcome == TACIT_DONE);
     CHECK(tacit_local_change(record, sizeof record, 7, false, NULL, 0).refusal == 9);
+    CHECK(tacit_wish(record, sizeof record, 0, 1, true, NULL, 0).answer.refusal == 9);
 }
 
 static void no_row_at_all(void)
@@ -55,6 +65,7 @@ static void no_row_at_all(void)
     CHECK(tacit_row_initialization(&session, 1, 0, limits, NULL, 0).outcome == TACIT_DONE);
     CHECK(tacit_row_capability(&session, 1, 0, NULL, 0).outcome == TACIT_DONE);
     CHECK(tacit_row_local_change(&session, 1, 0, 7, false, NULL, 0).refusal == 9);
+    CHECK(tacit_session_wish(&session, 0, 1, true, NULL, 0).answer.refusal == 9);
     CHECK(session.state == TACIT_OPEN && session.enabled == (APP(6) | APP(7)));
 }
 
@@ -81,13 +92,15 @@ static void records(void)
         record = original;
         CHECK(local_change(&record, 5, true, room, sizeof room).refusal == wanted);
         record = original;
+        CHECK(wish(&record, 0, 1, true, room, sizeof room).answer.refusal == wanted);
+        record = original;
         CHECK(mismatch(&record).refusal == wanted);
         record = original;
         CHECK(hello(&record, 1).refusal == wanted);
         record = original;
         CHECK(closed(&record).refusal == wanted);
         CHECK(initialization_text(&record, "").refusal == wanted);
-        CHECK(create(&record, true, true, true, true, 0, 0, 0) == wanted);
+        CHECK(create(&record, fec129) == wanted);
     }
 }
 
@@ -260,6 +273,42 @@ static void rooms_in_rows(void)
     }
 }
 
+/* 14 octets and no other, or 8 and none; what changes nothing needs no room. */
+static void rooms_of_wishes(void)
+{
+    for (size_t length = 0; length <= LARGEST_ROOM; length++) {
+        trying("a room of %zu octets", length);
+        uint8_t room[LARGEST_ROOM], as_found[LARGEST_ROOM];
+        fill_room(room, as_found);
+        struct record record = opened(APP(4) | APP(7), dynamic_fec129);
+        CHECK(wish(&record, 2, 2, true, room, length).answer.outcome == TACIT_UNCHANGED);
+        CHECK(memcmp(room, as_found, sizeof room) == 0);
+        struct tacit_wished wished = wish(&record, 2, 3, true, room, length);
+        size_t written = length < 14 ? 0 : 14;
+        CHECK(wished.answer.refusal == (length < 14 ? 8 : 0));
+        CHECK(wished.answer.written == written && wished.wishes == (length < 14 ? 2 : 6));
+        CHECK(memcmp(room + written, as_found + written, LARGEST_ROOM - written) == 0);
+    }
+}
+
+/* As many octets as the SAC has, by its own length, and no other. */
+static void rooms_of_sacs(void)
+{
+    static const uint8_t needed[16] = {0, 6, 6, 7, 6, 7, 7, 8, 6, 7, 7, 8, 7, 8, 8, 9};
+    for (uint32_t wishes = 0; wishes < 16; wishes++) {
+        for (size_t length = 0; length <= LARGEST_ROOM; length++) {
+            trying("a room of %zu octets for wishes %lX", length, (unsigned long)wishes);
+            uint8_t room[LARGEST_ROOM], as_found[LARGEST_ROOM];
+            fill_room(room, as_found);
+            struct tacit_written answer = wish_sac(wishes, room, length);
+            size_t written = length < needed[wishes] ? 0 : needed[wishes];
+            CHECK(answer.refusal == (length < needed[wishes] ? 8 : 0));
+            CHECK(answer.written == written);
+            CHECK(memcmp(room + written, as_found + written, LARGEST_ROOM - written) == 0);
+        }
+    }
+}
+
 /* Lengths that are right only if their upper 32 bits are lost. */
 
 static const size_t more = (size_t)1 << 32;
@@ -281,9 +330,9 @@ static void beyond_32_bits(void)
         return;
     uint8_t *record = octets;
     size_t right = TACIT_RECORD_LENGTH;
-    CHECK(tacit_create(record, more + right, true, true, true, false, 0, APP(7), 1) == 10);
+    CHECK(tacit_create(record, more + right, fec129) == 10);
     CHECK(record[0] == 0);
-    CHECK(tacit_create(record, right, true, true, true, false, 0, APP(7), 1) == 0);
+    CHECK(tacit_create(record, right, fec129) == 0);
     CHECK(!tacit_sound(record, more + right));
     CHECK(tacit_state(record, more + right) == TACIT_NO_STATE);
     CHECK(tacit_permitted(record, more + right, 0).refusal == 10);
@@ -296,6 +345,7 @@ static void beyond_32_bits(void)
     CHECK(tacit_initialization(record, more + right, NULL, 0).refusal == 10);
     CHECK(tacit_capability(record, more + right, NULL, 0).refusal == 10);
     CHECK(tacit_local_change(record, more + right, 4, true, NULL, 0).refusal == 10);
+    CHECK(tacit_wish(record, more + right, 0, 1, true, NULL, 0).answer.refusal == 10);
     CHECK(tacit_sound(record, right));
 
     uint8_t *area = octets + 1024;
@@ -309,6 +359,12 @@ static void beyond_32_bits(void)
     struct tacit_answer answer = tacit_local_change(record, right, 4, true, room, more);
     CHECK(answer.refusal == 0 && answer.written == 17);
     CHECK(room[16] == 0 && room[15] == 0x80 && room[17] == 0);
+    room += 32;
+    CHECK(tacit_wish(record, right, 0, 4, true, room, more).answer.written == 14);
+    CHECK(room[13] == 0xC0 && room[14] == 0);
+    room += 32;
+    CHECK(tacit_wish_sac(9, room, more).written == 7);
+    CHECK(room[6] == 0xC0 && room[7] == 0);
     munmap(octets, more + 4096);
 }
 
@@ -349,6 +405,8 @@ void lengths(void)
     test("areas full of elements", full_areas);
     test("rooms of 0 to 40 octets", rooms);
     test("rooms of 0 to 40 octets, in rows", rooms_in_rows);
+    test("rooms of 0 to 40 octets, for wishes", rooms_of_wishes);
+    test("rooms of 0 to 40 octets, for the SAC of an Initialization", rooms_of_sacs);
     test("lengths beyond 32 bits", beyond_32_bits);
     test("lengths beyond 32 bits, in rows", rows_beyond_32_bits);
 }

@@ -56,36 +56,90 @@ static void kinds_of_label(void)
         CHECK(answer.refusal == (kind <= 9 ? 0 : 6));
         CHECK(answer.permitted == (kind <= 9 ? 1 : 0));
         CHECK(why_not(&record, kind).refusal == answer.refusal);
+        CHECK(is_wanted(0, kind).refusal == answer.refusal);
+        CHECK(is_wanted(0, kind).wanted == (kind <= 9 ? 1 : 0));
+        CHECK(is_wanted(TACIT_ALL_SAC, kind).refusal == answer.refusal);
     }
+}
+
+/* The numbers of Apps and of TA-Ids: only four of the thirteen are an App's. */
+static void sac_apps(void)
+{
+    struct record open = opened(APP(4), "85060001 80 850F0005 80 00048000");
+    for (unsigned i = 0; i < NUMBERS; i++) {
+        uint32_t app = number(i);
+        trying("App %lu", (unsigned long)app);
+        bool known = app >= 1 && app <= 4;
+        uint8_t room[14] = {0};
+        struct record record = open;
+        struct tacit_wished wished = wish(&record, 0, app, true, room, sizeof room);
+        CHECK(wished.answer.refusal == (known ? 0 : 15));
+        CHECK(wished.answer.written == (known ? 14 : 0));
+        CHECK(wished.wishes == (known ? TACIT_SAC_SET(app) : 0));
+        wished = wish(&record, TACIT_ALL_SAC, app, true, room, 0);
+        CHECK(wished.answer.refusal == (known ? 0 : 15));
+        CHECK(wished.answer.outcome == (known ? TACIT_UNCHANGED : TACIT_DONE));
+    }
+}
+
+/* Those with a bit that is no App's come back with all their bits. */
+static void kept_wishes(void)
+{
+    struct record open = opened(APP(4), "85060001 80 850F0005 80 00048000");
+    for (unsigned i = 0; i < NUMBERS; i++) {
+        uint32_t wishes = number(i), app = i % 4 + 1;
+        trying("wishes %08lX", (unsigned long)wishes);
+        uint8_t wanted = wishes < 16 ? 0 : 10;
+        uint8_t room[14] = {0};
+        struct record record = open;
+        struct tacit_wished wished =
+            wish(&record, wishes, app, (wishes >> (app - 1) & 1) == 0, room, sizeof room);
+        CHECK(wished.answer.refusal == wanted);
+        CHECK(wished.wishes == (wanted == 0 ? wishes ^ TACIT_SAC_SET(app) : wishes));
+        CHECK(wish_sac(wishes, room, sizeof room).refusal == wanted);
+        CHECK(is_wanted(wishes, i % 10).refusal == wanted);
+    }
+}
+
+static uint8_t created(uint32_t protected_kinds, uint32_t enabled, uint32_t wishes)
+{
+    struct record record = {{0}, TACIT_RECORD_LENGTH};
+    return create(&record, (struct tacit_settings){.uses_tac = true,
+                                                   .protected_kinds = protected_kinds,
+                                                   .enabled = enabled,
+                                                   .wishes = wishes});
 }
 
 static void sets(void)
 {
+    const uint32_t kinds = TACIT_ALL_KINDS, apps = TACIT_ALL_APPS, sac = TACIT_ALL_SAC;
     for (unsigned bit = 0; bit < 32; bit++) {
         uint32_t set = UINT32_C(1) << bit;
         trying("a set with bit %u", bit);
-        struct record record = {{0}, TACIT_RECORD_LENGTH};
-        CHECK(create(&record, false, false, true, false, set, 0, 0) == (bit <= 9 ? 0 : 6));
-        record.length = TACIT_RECORD_LENGTH;
-        CHECK(create(&record, false, false, true, false, 0, set, 0) == (bit <= 12 ? 0 : 6));
-        CHECK(create(&record, false, false, true, false, TACIT_ALL_KINDS | set, TACIT_ALL_APPS,
-                     0) == (bit <= 9 ? 0 : 6));
-        CHECK(create(&record, false, false, true, false, TACIT_ALL_KINDS, TACIT_ALL_APPS | set,
-                     0) == (bit <= 12 ? 0 : 6));
+        CHECK(created(set, 0, 0) == (bit <= 9 ? 0 : 6));
+        CHECK(created(0, set, 0) == (bit <= 12 ? 0 : 6));
+        CHECK(created(0, 0, set) == (bit <= 3 ? 0 : 6));
+        CHECK(created(kinds | set, apps, sac) == (bit <= 9 ? 0 : 6));
+        CHECK(created(kinds, apps | set, sac) == (bit <= 12 ? 0 : 6));
+        CHECK(created(kinds, apps, sac | set) == (bit <= 3 ? 0 : 6));
     }
     for (unsigned i = 0; i < OTHERS; i++) {
-        uint32_t protected_kinds = any_number(), enabled = any_number();
-        trying("sets %08lX and %08lX", (unsigned long)protected_kinds, (unsigned long)enabled);
-        bool fits = (protected_kinds >> 10) == 0 && (enabled >> 13) == 0;
+        struct tacit_settings settings = {.initiating = true,
+                                          .uses_tac = true,
+                                          .protected_kinds = any_number(),
+                                          .enabled = any_number(),
+                                          .wishes = any_number()};
+        trying("sets %08lX, %08lX and %08lX", (unsigned long)settings.protected_kinds,
+               (unsigned long)settings.enabled, (unsigned long)settings.wishes);
         struct record record = {{0}, TACIT_RECORD_LENGTH};
-        CHECK(create(&record, true, false, true, false, protected_kinds, enabled, 0) ==
-              (fits ? 0 : 6));
-        protected_kinds &= TACIT_ALL_KINDS;
-        enabled &= TACIT_ALL_APPS;
-        CHECK(create(&record, true, false, true, false, protected_kinds, enabled, 0) == 0);
-        CHECK(record.octets[6] == (enabled & 255) && record.octets[7] == enabled >> 8);
-        CHECK(record.octets[10] == (protected_kinds & 255));
-        CHECK(record.octets[11] == protected_kinds >> 8);
+        CHECK(create(&record, settings) == 6);
+        settings.protected_kinds &= kinds;
+        settings.enabled &= apps;
+        settings.wishes &= sac;
+        CHECK(create(&record, settings) == 0);
+        struct tacit_session session = session_in(&record);
+        CHECK(session.enabled == settings.enabled && session.protects == settings.protected_kinds);
+        CHECK(session.disabled == 0);
     }
 }
 
@@ -101,7 +155,9 @@ static void table(void)
             trying("ours %lu, the peer's %lu", (unsigned long)ours, (unsigned long)theirs);
             uint8_t area[9] = {0x85, 0x0F, 0, 5, 0x80, 0, (uint8_t)theirs, 0x80, 0};
             struct record record = {{0}, TACIT_RECORD_LENGTH};
-            create(&record, true, true, true, false, opens[8], APP(ours), 0);
+            create(&record,
+                   (struct tacit_settings){.initiating = true, .active = true, .uses_tac = true,
+                                           .protected_kinds = opens[8], .enabled = APP(ours)});
             struct tacit_answer answer = initialization(&record, area, sizeof area);
             CHECK(answer.outcome == (ours == theirs ? TACIT_DONE : TACIT_MISMATCH));
             CHECK(kinds(&record) == (ours == theirs ? opens[ours] : 0));
@@ -181,12 +237,17 @@ static void message_numbers(void)
     for (size_t i = 0; i < sizeof rows / sizeof *rows; i++) {
         trying("message number %lu", (unsigned long)rows[i]);
         struct record record = {{0}, TACIT_RECORD_LENGTH};
-        CHECK(create(&record, true, true, true, false, 0, APP(4), rows[i]) == 0);
+        CHECK(create(&record,
+                     (struct tacit_settings){.initiating = true, .active = true, .uses_tac = true,
+                                             .enabled = APP(4), .first_number = rows[i]}) == 0);
         initialization_text(&record, "85060001 80 850F0005 80 00048000");
         uint8_t room[17] = {0};
         /* The wrapper looks at the number in the message and at the next one. */
-        for (int turn = 0; turn < 3; turn++)
+        for (int turn = 0; turn < 3; turn++) {
             CHECK(local_change(&record, 5, turn % 2 == 0, room, sizeof room).written == 17);
+            CHECK(wish(&record, 0, 1, true, room, sizeof room).answer.written == 14);
+        }
+        CHECK(session_in(&record).next == (uint32_t)(rows[i] + 6));
     }
 }
 
@@ -370,6 +431,8 @@ void numbers(void)
 {
     test("TA-Ids of all 32 bits", applications);
     test("kinds of all 32 bits", kinds_of_label);
+    test("SAC Apps of all 32 bits", sac_apps);
+    test("wishes of all 32 bits", kept_wishes);
     test("sets of all 32 bits", sets);
     test("the kinds that each application opens", table);
     test("why, by what each application opens", reasons);

@@ -1,4 +1,4 @@
-// The header in C++17, with one session and one row through it.
+// The header in C++17, its assertions on sizes included, with a session, a row and a wish through it.
 #include "tacit.h"
 
 #include <cstring>
@@ -44,14 +44,43 @@ static bool one_row(const uint8_t *record, size_t record_len)
            tacit_row_mismatch(row, 2, 1).outcome == TACIT_MISMATCH;
 }
 
+// A wish in a message, then all wishes in an Initialization, by record and by session.
+static bool one_wish(uint8_t *record, size_t record_len, uint32_t wishes)
+{
+    static const uint8_t dynamic[] = {0x85, 0x06, 0, 1, 0x80};
+    uint8_t room[TACIT_WISH_LENGTH], sac[TACIT_SAC_MOST];
+    if (tacit_closed(record, record_len).refusal != 0 ||
+        tacit_initialization(record, record_len, dynamic, sizeof dynamic).refusal != 0)
+        return false;
+    const tacit_wished wished = tacit_wish(record, record_len, wishes, TACIT_SAC_IPV4_PREFIX, true,
+                                           room, sizeof room);
+    if (wished.answer.written != sizeof room || room[sizeof room - 1] != 0x90)
+        return false;
+    const tacit_written written = tacit_wish_sac(wished.wishes, sac, sizeof sac);
+    tacit_session session = tacit_load(record, record_len).session;
+    return written.written == 7 && sac[5] == 0x90 && sac[6] == 0xA0 &&
+           tacit_wanted(wished.wishes, TACIT_KIND_IPV4_PREFIX).wanted == 0 &&
+           tacit_wanted(wished.wishes, TACIT_KIND_PWID).wanted == 1 &&
+           tacit_session_wish(&session, wished.wishes, 1, false, room, sizeof room).wishes ==
+               wishes &&
+           session.next == 3 && std::strcmp(tacit_sac_app_text(1), "IPv4 prefixes") == 0;
+}
+
 int main()
 {
     uint8_t record[TACIT_RECORD_LENGTH], stored[TACIT_RECORD_LENGTH];
-    if (tacit_create(record, sizeof record, true, true, true, false, 0,
-                     TACIT_APP_SET(TACIT_APP_FEC129_PW), 1) != TACIT_NOT_REFUSED)
+    tacit_settings settings{};
+    settings.initiating = settings.active = settings.uses_tac = true;
+    settings.enabled = TACIT_APP_SET(TACIT_APP_FEC129_PW);
+    settings.first_number = 1;
+    settings.wishes = TACIT_SAC_SET(TACIT_SAC_IPV6_PREFIX);
+    if (tacit_create(record, sizeof record, settings) != TACIT_NOT_REFUSED)
         return 1;
     if (tacit_store(tacit_load(record, sizeof record).session, stored, sizeof stored) != 0 ||
         std::memcmp(record, stored, sizeof record) != 0)
         return 1;
-    return one_row(record, sizeof record) && one_session(record, sizeof record) ? 0 : 1;
+    return one_row(record, sizeof record) && one_session(record, sizeof record) &&
+                   one_wish(record, sizeof record, settings.wishes)
+               ? 0
+               : 1;
 }

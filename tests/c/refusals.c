@@ -1,13 +1,18 @@
 /* Every refusal, their order, and the states that events are for. */
 #include "harness.h"
 
+#include <string.h>
+
 #define APP(n) TACIT_APP_SET(n)
 
 /* A record of each state. */
 static struct record in_state(uint8_t wanted)
 {
     struct record record = {{0}, TACIT_RECORD_LENGTH};
-    CHECK(create(&record, true, true, true, wanted == TACIT_GONE, 0, APP(4) | APP(7), 1) == 0);
+    CHECK(create(&record,
+                 (struct tacit_settings){.initiating = true, .active = true, .uses_tac = true,
+                                         .drops = wanted == TACIT_GONE, .enabled = APP(4) | APP(7),
+                                         .first_number = 1}) == 0);
     if (wanted == TACIT_OPEN)
         initialization_text(&record, "85060001 80 850F0005 80 00078000");
     if (wanted == TACIT_HELD || wanted == TACIT_GONE)
@@ -102,12 +107,12 @@ static void of_parts(void)
 static void of_states(void)
 {
     static const struct {
-        uint8_t initialization, capability, mismatch, closed;
+        uint8_t initialization, capability, mismatch, closed, wish;
     } wanted[] = {
-        [TACIT_READY] = {0, 7, 0, 7},
-        [TACIT_OPEN] = {7, 0, 0, 0},
-        [TACIT_HELD] = {7, 7, 7, 7},
-        [TACIT_GONE] = {7, 7, 7, 7},
+        [TACIT_READY] = {0, 7, 0, 7, 7},
+        [TACIT_OPEN] = {7, 0, 0, 0, 0},
+        [TACIT_HELD] = {7, 7, 7, 7, 7},
+        [TACIT_GONE] = {7, 7, 7, 7, 7},
     };
     for (uint8_t s = 0; s < 4; s++) {
         trying("state %s", tacit_state_text(s));
@@ -123,6 +128,10 @@ static void of_states(void)
         CHECK(hello(&record, 1).refusal == 0);
         uint8_t room[17] = {0};
         CHECK(local_change(&record, 5, true, room, sizeof room).refusal == 0);
+        record = in_state(s);
+        CHECK(wish(&record, 0, 1, true, room, sizeof room).answer.refusal == wanted[s].wish);
+        CHECK(wish(&record, 0, 1, false, room, 0).answer.outcome == TACIT_UNCHANGED);
+        CHECK(wish(&record, 1, 1, true, room, 0).answer.outcome == TACIT_UNCHANGED);
     }
 }
 
@@ -167,7 +176,7 @@ static void of_local_changes(void)
     /* Nothing is to be written in the other states, nor without TAC. */
     CHECK(local_change(&record, 7, true, room, 0).outcome == TACIT_DONE);
     CHECK(state(&record) == TACIT_READY);
-    CHECK(create(&record, false, false, false, false, 0, APP(7), 1) == 0);
+    CHECK(create(&record, (struct tacit_settings){.enabled = APP(7), .first_number = 1}) == 0);
     initialization_text(&record, "");
     answer = local_change(&record, 7, false, room, 0);
     CHECK(answer.refusal == 0 && answer.outcome == TACIT_DONE && answer.written == 0);
@@ -178,10 +187,66 @@ static void of_creation(void)
 {
     struct record record = {{0}, TACIT_RECORD_LENGTH};
     struct record shorter = {{0}, TACIT_RECORD_LENGTH - 1};
-    CHECK(create(&shorter, true, true, true, true, 0x400, 0x2000, 1) == 10);
-    CHECK(create(&record, true, true, true, true, 0x400, 0, 1) == 6);
-    CHECK(create(&record, true, true, true, true, 0, 0x2000, 1) == 6);
-    CHECK(create(&record, true, true, true, true, 0x3FF, 0x1FFF, 1) == 0);
+    const struct tacit_settings over = {
+        .protected_kinds = 0x400, .enabled = 0x2000, .wishes = 0x10};
+    CHECK(create(&shorter, over) == 10);
+    CHECK(create(&record, over) == 6);
+    CHECK(create(&record, (struct tacit_settings){.protected_kinds = 0x400}) == 6);
+    CHECK(create(&record, (struct tacit_settings){.enabled = 0x2000}) == 6);
+    CHECK(create(&record, (struct tacit_settings){.wishes = 0x10}) == 6);
+    CHECK(create(&record, (struct tacit_settings){.protected_kinds = 0x3FF,
+                                                  .enabled = 0x1FFF,
+                                                  .wishes = 0x0F}) == 0);
+}
+
+/* 10, 15, Unchanged, 7, 9, 8 in this order, by taking away one cause at a time. */
+static void of_wishes(void)
+{
+    const uint32_t spare = UINT32_C(0x80000010);
+    uint8_t room[14] = "thirteen, one";
+    struct record record = in_state(TACIT_HELD);
+    record.octets[13] = 1;
+    CHECK(wish(&record, spare, 5, true, room, 0).answer.refusal == 10);
+    CHECK(wish(&record, 0, 5, true, room, 0).answer.refusal == 10);
+    record.octets[13] = 0;
+    struct tacit_wished wished = wish(&record, spare, 5, true, room, 0);
+    CHECK(wished.answer.refusal == 10 && wished.wishes == spare);
+    CHECK(wish(&record, 0, 5, true, room, 0).answer.refusal == 15);
+    CHECK(wish(&record, 0, 0, false, room, 0).answer.refusal == 15);
+    CHECK(wish(&record, 2, 1, false, room, 0).answer.outcome == TACIT_UNCHANGED);
+    CHECK(wish(&record, 1, 1, true, room, 0).answer.outcome == TACIT_UNCHANGED);
+    wished = wish(&record, 2, 1, true, room, 0);
+    CHECK(wished.answer.refusal == 7 && wished.wishes == 2);
+    /* Open, and the peer is not dynamic: TAC used, then not. */
+    record = opened(APP(4) | APP(7), "850F0005 80 00078000");
+    CHECK(wish(&record, 1, 1, true, room, 0).answer.outcome == TACIT_UNCHANGED);
+    CHECK(wish(&record, 2, 1, true, room, 0).answer.refusal == 9);
+    CHECK(create(&record, (struct tacit_settings){.enabled = APP(7), .first_number = 1}) == 0);
+    initialization_text(&record, "");
+    CHECK(wish(&record, 2, 1, true, room, sizeof room).answer.refusal == 9);
+    /* With a dynamic peer the room is asked for, but where there is nothing to write. */
+    record = in_state(TACIT_OPEN);
+    CHECK(wish(&record, 2, 1, true, room, 13).answer.refusal == 8);
+    CHECK(wish(&record, 1, 1, true, room, 0).answer.outcome == TACIT_UNCHANGED);
+    CHECK(memcmp(room, "thirteen, one", sizeof room) == 0);
+    wished = wish(&record, 2, 1, true, room, 14);
+    CHECK(wished.answer.refusal == 0 && wished.answer.outcome == TACIT_DONE && wished.wishes == 3);
+}
+
+/* The SAC asks 10, then 8; the question 10, then 6. Neither asks a session. */
+static void of_wishes_alone(void)
+{
+    uint8_t room[9] = {0};
+    CHECK(wish_sac(0x1F, room, 0).refusal == 10);
+    CHECK(wish_sac(0x10, room, sizeof room).refusal == 10);
+    CHECK(wish_sac(0x0F, room, 8).refusal == 8);
+    CHECK(wish_sac(0x0F, room, 9).written == 9);
+    CHECK(wish_sac(0, room, 0).refusal == 0);
+    CHECK(is_wanted(0x10, 10).refusal == 10);
+    CHECK(is_wanted(0x10, 0).refusal == 10);
+    CHECK(is_wanted(0x0F, 10).refusal == 6);
+    CHECK(is_wanted(0, 10).refusal == 6);
+    CHECK(is_wanted(0x0F, 9).wanted == 1);
 }
 
 static void of_questions(void)
@@ -210,7 +275,9 @@ static void where_mismatches_lead(void)
         trying("initiating %d, active %d, drops %d", initiating, active, drops);
         uint8_t wanted = !active ? TACIT_READY : initiating && drops ? TACIT_GONE : TACIT_HELD;
         struct record told = {{0}, TACIT_RECORD_LENGTH}, finding = told;
-        create(&told, initiating, active, true, drops, 0, APP(4), 1);
+        create(&told,
+               (struct tacit_settings){.initiating = initiating, .active = active, .uses_tac = true,
+                                       .drops = drops, .enabled = APP(4), .first_number = 1});
         hello(&told, 5);
         finding = told;
         CHECK(mismatch(&told).outcome == TACIT_MISMATCH);
@@ -234,6 +301,8 @@ void refusals(void)
     test("the order of refusals", of_order);
     test("refusals of local changes", of_local_changes);
     test("refusals of creation", of_creation);
+    test("refusals of wishes", of_wishes);
+    test("refusals of wishes without a session", of_wishes_alone);
     test("refusals of questions", of_questions);
     test("where mismatches lead", where_mismatches_lead);
 }

@@ -17,7 +17,10 @@ static const struct tacit_limits nobody = {{0}};
 static struct tacit_session session_of(bool initiating, bool active, bool uses_tac, bool drops)
 {
     struct record record = {{0}, TACIT_RECORD_LENGTH};
-    CHECK(create(&record, initiating, active, uses_tac, drops, 0, APP(4) | APP(7), 1) == 0);
+    CHECK(create(&record,
+                 (struct tacit_settings){.initiating = initiating, .active = active,
+                                         .uses_tac = uses_tac, .drops = drops,
+                                         .enabled = APP(4) | APP(7), .first_number = 1}) == 0);
     return load(&record).session;
 }
 

@@ -122,7 +122,9 @@ static void given_up(void)
 static void without_tac(void)
 {
     struct record record = {{0}, TACIT_RECORD_LENGTH};
-    create(&record, true, true, false, false, 0, APP(4), 1);
+    create(&record,
+           (struct tacit_settings){.initiating = true, .active = true, .enabled = APP(4),
+                                   .first_number = 1});
     CHECK(initialization_text(&record, "850F0001 80 850D0002 80 90").outcome == TACIT_DONE);
     CHECK(kinds(&record) == (ALL & ~0x001));
     CHECK(capability_text(&record, "850F0005 80 00040000").outcome == TACIT_DONE);
@@ -158,7 +160,9 @@ static void held_and_gone(void)
     CHECK(local_change(&record, 7, true, NULL, 0).outcome == TACIT_DONE);
     CHECK(state(&record) == TACIT_READY);
 
-    create(&record, true, true, true, true, 0, APP(4), 1);
+    create(&record,
+           (struct tacit_settings){.initiating = true, .active = true, .uses_tac = true,
+                                   .drops = true, .enabled = APP(4), .first_number = 1});
     mismatch(&record);
     CHECK(local_change(&record, 7, true, NULL, 0).outcome == TACIT_DONE);
     CHECK(state(&record) == TACIT_GONE);
@@ -185,7 +189,9 @@ static void common_without_kinds(void)
     CHECK(kinds(&record) == 0);
     CHECK(capability_text(&record, "850F0005 80 00080000").outcome == TACIT_DONE);
     CHECK(capability_text(&record, "850F0005 80 00090000").outcome == TACIT_MISMATCH);
-    create(&record, true, true, true, false, 0x2A5, APP(8), 1);
+    create(&record,
+           (struct tacit_settings){.initiating = true, .active = true, .uses_tac = true,
+                                   .protected_kinds = 0x2A5, .enabled = APP(8), .first_number = 1});
     initialization_text(&record, "850F0005 80 00088000");
     CHECK(kinds(&record) == 0x2A5);
 }

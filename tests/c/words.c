@@ -4,41 +4,51 @@
 #include <stdio.h>
 #include <string.h>
 
-/* Texts for 'first' to 'last', all different, and "unknown" for anything else. */
-static void expect_texts(const char *(*text)(uint32_t), uint32_t first, uint32_t last)
+/* The set of the numbers from first to last. */
+static uint32_t from_to(uint32_t first, uint32_t last)
+{
+    return (UINT32_C(2) << last) - (UINT32_C(1) << first);
+}
+
+/* Texts for the numbers of this set, all different, and "unknown" for anything else. */
+static void expect_texts(const char *(*text)(uint32_t), uint32_t set)
 {
     for (uint32_t number = 0; number < 300; number++) {
         trying("the text for %lu", (unsigned long)number);
-        bool means = number >= first && number <= last;
+        bool means = number < 32 && (set >> number & 1) != 0;
         CHECK((strcmp(text(number), "unknown") != 0) == means);
-        for (uint32_t other = first; other < number && number <= last; other++)
+        for (uint32_t other = 0; means && other < number; other++)
             CHECK(strcmp(text(number), text(other)) != 0);
+        for (uint32_t upper = 512; means && upper != 0; upper <<= 1)
+            CHECK(strcmp(text(upper | number), "unknown") == 0);
     }
-    for (uint32_t upper = 1; upper != 0; upper <<= 1)
-        if (upper >= 256)
-            CHECK(strcmp(text(upper | first), "unknown") == 0);
     CHECK(strcmp(text(UINT32_MAX), "unknown") == 0);
 }
 
 static void texts(void)
 {
-    expect_texts(tacit_refusal_text, 0, 12);
-    expect_texts(tacit_outcome_text, 0, 3);
-    expect_texts(tacit_state_text, 0, 3);
-    expect_texts(tacit_why_text, 0, 4);
-    expect_texts(tacit_kind_text, 0, 9);
-    expect_texts(tacit_application_text, 1, 13);
+    expect_texts(tacit_refusal_text, from_to(0, 12) | from_to(15, 15));
+    expect_texts(tacit_outcome_text, from_to(0, 3));
+    expect_texts(tacit_state_text, from_to(0, 3));
+    expect_texts(tacit_why_text, from_to(0, 4));
+    expect_texts(tacit_kind_text, from_to(0, 9));
+    expect_texts(tacit_application_text, from_to(1, 13));
+    expect_texts(tacit_sac_app_text, from_to(1, 4));
+    CHECK(strcmp(tacit_refusal_text(8), "too little room for what is to be written") == 0);
     CHECK(strcmp(tacit_refusal_text(12), "limit over 64") == 0);
+    CHECK(strcmp(tacit_refusal_text(15), "no SAC App") == 0);
     CHECK(strcmp(tacit_outcome_text(3), "at the limit") == 0);
     CHECK(strcmp(tacit_why_text(2), "disabled by the peer") == 0);
     CHECK(strcmp(tacit_kind_text(8), "Generalized PWid") == 0);
     CHECK(strcmp(tacit_application_text(4), "LDPv4 Remote LFA") == 0);
+    CHECK(strcmp(tacit_sac_app_text(1), "IPv4 prefixes") == 0);
+    CHECK(strcmp(tacit_sac_app_text(4), "FEC 129 pseudowires") == 0);
 }
 
 /* The numbers of the rules, by the header's names. */
 static void names(void)
 {
-    CHECK(TACIT_REFUSED_ROW == 11 && TACIT_REFUSED_LIMIT == 12);
+    CHECK(TACIT_REFUSED_ROW == 11 && TACIT_REFUSED_LIMIT == 12 && TACIT_REFUSED_APP == 15);
     CHECK(TACIT_AT_LIMIT == 3);
     CHECK(TACIT_PERMITTED == 0 && TACIT_NOT_OPEN == 1 && TACIT_DISABLED_BY_PEER == 2);
     CHECK(TACIT_NOT_ENABLED == 3 && TACIT_NOT_LISTED == 4);
@@ -46,6 +56,10 @@ static void names(void)
     CHECK(TACIT_EVENT_INITIALIZATION == 0 && TACIT_EVENT_CAPABILITY == 1);
     CHECK(TACIT_EVENT_LOCAL_CHANGE == 2 && TACIT_EVENT_MISMATCH == 3);
     CHECK(TACIT_EVENT_HELLO == 4 && TACIT_EVENT_CLOSED == 5);
+    CHECK(TACIT_SAC_IPV4_PREFIX == 1 && TACIT_SAC_IPV6_PREFIX == 2);
+    CHECK(TACIT_SAC_FEC128_PW == 3 && TACIT_SAC_FEC129_PW == 4);
+    CHECK(TACIT_SAC_SET(1) == 1 && TACIT_SAC_SET(4) == 8 && TACIT_ALL_SAC == 15);
+    CHECK(TACIT_WISH_LENGTH == 14 && TACIT_SAC_MOST == 9 && TACIT_MESSAGE_AREA == 8);
 }
 
 static void states(void)
@@ -111,6 +125,8 @@ static void answer_lines(void)
     expect_line((struct tacit_answer){0, 255, 0x8400, 0, 65535},
                 "unknown (255); lost unknown (10), unknown (15); 65535 octets written");
     expect_line((struct tacit_answer){0, 0, 0, 0, 10}, "done; 10 octets written");
+    expect_line((struct tacit_answer){0, 0, 0, 0, 14}, "done; 14 octets written");
+    expect_line((struct tacit_answer){15, 0, 0, 0, 0}, "refused, number 15: no SAC App");
 }
 
 /* Every refusal and every outcome there can be, by the texts of their numbers. */

@@ -144,7 +144,7 @@ static inline void lend(enum buffer which, struct place *place, struct octets oc
                         bool to_the_end)
 {
     place->to_the_end = to_the_end;
-    if (which == ROW)
+    if (of_sessions[which])
         lend_row(place, octets);
     else
         lend_octets(place, octets);
@@ -152,13 +152,13 @@ static inline void lend(enum buffer which, struct place *place, struct octets oc
 
 static inline bool guarded(enum buffer which, const struct place *place)
 {
-    return which == ROW ? row_guarded(place) : octets_guarded(place);
+    return of_sessions[which] ? row_guarded(place) : octets_guarded(place);
 }
 
-/* Writes what stands in a place, a row as the fields of its sessions; where that ends. */
+/* Writes what stands in a place, sessions as their fields; where that ends. */
 static inline uint8_t *put_place(uint8_t *to, enum buffer which, const struct place *place)
 {
-    if (which != ROW)
+    if (!of_sessions[which])
         return (uint8_t *)memcpy(to, place->lent, place->length) + place->length;
     const struct tacit_session *sessions = (const struct tacit_session *)(void *)place->lent;
     for (size_t i = 0; i < place->length / sizeof *sessions; i++)
@@ -171,7 +171,7 @@ static inline bool stands(enum buffer which, const struct place *place, struct o
 {
     if (octets.length == 0)
         return true;
-    if (which != ROW)
+    if (!of_sessions[which])
         return memcmp(place->lent, octets.start, octets.length) == 0;
     const struct tacit_session *sessions = (const struct tacit_session *)(void *)place->lent;
     for (size_t i = 0; i < octets.length / SESSION_OCTETS; i++) {

@@ -14,7 +14,8 @@
  *              .. each buffer that the call may write, as it left it (enum buffer)
  *
  * Numbers have the octets of their types, the least significant first. A buffer is
- * a length in octets, four of them, then these. A row is the fields of its sessions.
+ * a length in octets, four of them, then these. A row is the fields of its sessions;
+ * one session is its fields without a length.
  *
  * Every call is made twice: with each buffer between guard octets, then with
  * each buffer in front of a page that cannot be touched. Both must come to the
@@ -26,6 +27,12 @@
 #include <sys/resource.h>
 
 enum { LENGTH = 4 }; /* octets of a length */
+
+/* Octets of the length that stands before a buffer: one session has none. */
+static int before(int buffer)
+{
+    return buffer == ONE ? 0 : LENGTH;
+}
 
 #ifdef PLAIN
 DECLARE_CALLS(plain)
@@ -73,10 +80,10 @@ static bool take_flag(struct source *source)
 
 static struct octets take_buffer(struct source *source, enum buffer which)
 {
-    size_t length = (size_t)take_number(source, LENGTH);
+    size_t length = which == ONE ? SESSION_OCTETS : (size_t)take_number(source, LENGTH);
     if (length > LARGEST)
         stop("a buffer is too long");
-    if (which == ROW && length % SESSION_OCTETS != 0)
+    if (of_sessions[which] && length % SESSION_OCTETS != 0)
         stop("a row ends within a session");
     return take_octets((struct batch *)source, length);
 }
@@ -108,7 +115,7 @@ static uint8_t *put_left(uint8_t *to, const struct given *given)
 {
     for (int i = 0; i < BUFFERS; i++) {
         if (is_written(given, i)) {
-            to = put_number(to, given->lent[i].length, LENGTH);
+            to = put_number(to, given->lent[i].length, before(i));
             to = put_place(to, (enum buffer)i, &places.of[i]);
         }
     }
@@ -120,7 +127,7 @@ static bool left_again(const uint8_t *left, const struct given *given)
 {
     for (int i = 0; i < BUFFERS; i++) {
         if (is_written(given, i)) {
-            struct octets octets = {left + LENGTH, given->lent[i].length};
+            struct octets octets = {left + before(i), given->lent[i].length};
             if (!stands((enum buffer)i, &places.of[i], octets))
                 return false;
             left = octets.start + octets.length;

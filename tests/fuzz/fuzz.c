@@ -4,15 +4,16 @@
  * An input is one session and what happens to it:
  *
  *   how it begins   an octet. Bit 7 is 0: it is created; bits 0 to 3 are the
- *                   roles, and two sets of 2 octets and a number of 4 follow.
- *                   Bit 7 is 1: a record of so many octets as bits 0 to 5 say
- *                   follows.
+ *                   roles, and two sets of 2 octets and a number of 4 follow,
+ *                   and an octet of wishes if bit 4 is 1. Bit 7 is 1: a record of
+ *                   so many octets as bits 0 to 5 say follows.
  *   calls           each an octet and what it takes. Bits 0 to 3 of the octet are
  *                   the call, bit 4 is on or off, bit 5 says where buffers are
  *                   lent, bit 6 lends empty ones as NULL. Areas have a length of
  *                   2 octets, then octets; room has a length of 1; numbers have
  *                   the octets of their types; what is true or false has one, but
- *                   the first of a call, which is bit 4.
+ *                   the first of a call, which is bit 4; settings are their fields.
+ *                   The wishes are those that are kept, with these bits turned.
  *
  * If bit 6 of the first octet is 1, it is a row of sessions and what happens there:
  *
@@ -26,8 +27,9 @@
  *                   is made of 2 octets. A row number is an octet, modulo the
  *                   sessions and two more, or FF and 8 octets.
  *
- * Numbers have the most significant octet first. What is missing at the end is 0,
- * so a short input can have a long area, or a long row.
+ * Numbers have the most significant octet first, but in the fields of a struct the
+ * least. What is missing at the end is 0, so a short input can have a long area, or a
+ * long row.
  */
 #define _DEFAULT_SOURCE
 #include "watched.h"
@@ -43,6 +45,8 @@ enum {
     ON_RECORD = LOAD,   /* the calls on the record of one session stand before this one */
     EVENTS = TACIT_EVENT_CLOSED + 1
 };
+
+_Static_assert(ON_RECORD <= 0x10, "four bits tell the calls on a record apart");
 
 /* Where the sessions of a group are from. */
 enum origin {
@@ -60,8 +64,11 @@ enum deed {
     ALL_LIMITS,         /* the limits are 13 octets */
     STORE_AND_LOAD,     /* a session of the row, or one behind it, in a record and back */
     LOAD_OCTETS,        /* a record, whose session then stands in the row if it is sound */
+    ONE_WISH,           /* a wish of a session of the row, or of one behind it */
     DEEDS
 };
+
+_Static_assert(DEEDS <= 0x10, "four bits tell them apart");
 
 DECLARE_CALLS(second)
 
@@ -81,9 +88,11 @@ struct scene {
     uint8_t head;        /* of the call that is being made */
     bool flag_taken;     /* bit 4 of it was used */
     size_t record_length, count;
+    uint32_t wishes; /* those that are kept */
     struct tacit_limits limits;
     uint8_t record[MOST_RECORD], area[MOST_AREA], room[MOST_ROOM];
     uint8_t row[MOST_ROW * SESSION_OCTETS];
+    uint8_t one[SESSION_OCTETS]; /* a session that is lent by itself */
 };
 
 static uint64_t take(struct scene *scene, int octets)
@@ -176,9 +185,7 @@ static uint64_t number(struct source *source, int octets)
 
 static const uint8_t *fields(struct source *source, size_t length)
 {
-    static uint8_t octets[SESSION_OCTETS];
-    if (length > sizeof octets)
-        stop("a struct is too long");
+    static uint8_t octets[WIDEST];
     return take_octets((struct scene *)source, octets, length).start;
 }
 
@@ -192,6 +199,8 @@ static struct octets buffer(struct source *source, enum buffer which)
         return take_room(scene);
     case ROW:
         return (struct octets){scene->row, scene->count * SESSION_OCTETS};
+    case ONE:
+        return (struct octets){scene->one, SESSION_OCTETS};
     default:
         return (struct octets){scene->record, scene->record_length};
     }
@@ -324,6 +333,17 @@ static bool same_left(const struct given *given)
     return true;
 }
 
+/* Keeps the wishes of a new session, and those that a wish hands back. */
+static void keep_wishes(struct scene *scene, const struct given *given, const uint8_t *said)
+{
+    if (said[0] != 0)
+        return;
+    if (given->call == CREATE)
+        scene->wishes = given->settings.wishes;
+    if (given->call == WISH || given->call == SESSION_WISH)
+        scene->wishes = (uint32_t)get_number(said + ANSWER_OCTETS, sizeof scene->wishes);
+}
+
 /* Makes a call of both; the scene then is as it was left. */
 static void compare(struct scene *scene, const struct given *given, uint8_t *said)
 {
@@ -339,12 +359,15 @@ static void compare(struct scene *scene, const struct given *given, uint8_t *sai
         show_left("library", given, again, &ours);
         abort();
     }
-    uint8_t *const kept[BUFFERS] = {
-        [RECORD] = scene->record, [ROOM] = scene->room, [ROW] = scene->row};
+    uint8_t *const kept[BUFFERS] = {[RECORD] = scene->record,
+                                    [ROOM] = scene->room,
+                                    [ROW] = scene->row,
+                                    [ONE] = scene->one};
     for (int i = 0; i < BUFFERS; i++) {
         if (is_written(given, i))
             put_place(kept[i], (enum buffer)i, &theirs.of[i]);
     }
+    keep_wishes(scene, given, said);
     count_made(given, said);
 }
 
@@ -358,6 +381,7 @@ static struct given call_of(struct scene *scene, enum call call)
     struct given given = {.call = (uint8_t)call, .null = scene->head & 0x40};
     given.lent[RECORD] = buffer(&scene->source, RECORD);
     given.lent[ROW] = buffer(&scene->source, ROW);
+    given.lent[ONE] = buffer(&scene->source, ONE);
     given.lent[AREA] = (struct octets){scene->area, 0};
     given.lent[ROOM] = (struct octets){scene->room, 0};
     return given;
@@ -375,13 +399,14 @@ static void begin(struct scene *scene)
     }
     struct given given = call_of(scene, CREATE);
     given.null = false;
-    given.initiating = how & 1;
-    given.active = how >> 1 & 1;
-    given.uses_tac = how >> 2 & 1;
-    given.drops = how >> 3 & 1;
-    given.protected_kinds = (uint32_t)take(scene, 2);
-    given.enabled = (uint32_t)take(scene, 2);
-    given.first_number = (uint32_t)take(scene, 4);
+    given.settings.initiating = how & 1;
+    given.settings.active = how >> 1 & 1;
+    given.settings.uses_tac = how >> 2 & 1;
+    given.settings.drops = how >> 3 & 1;
+    given.settings.protected_kinds = (uint32_t)take(scene, 2);
+    given.settings.enabled = (uint32_t)take(scene, 2);
+    given.settings.first_number = (uint32_t)take(scene, 4);
+    given.settings.wishes = how & 0x10 ? (uint32_t)take(scene, 1) : 0;
     compare(scene, &given, said);
 }
 
@@ -394,6 +419,7 @@ static void lead_session(struct scene *scene)
         scene->flag_taken = false;
         struct given given = {.call = (scene->head & 0x0F) % ON_RECORD, .null = scene->head & 0x40};
         take_given(&given, &scene->source);
+        given.wishes ^= scene->wishes;
         compare(scene, &given, said);
     }
 }
@@ -480,14 +506,21 @@ static void set_limit(struct scene *scene)
     memcpy(scene->limits.of, said + 1, sizeof scene->limits.of);
 }
 
-static void store_and_load(struct scene *scene)
+/* The fields of a session of the row, or of one behind it; hands back its number. */
+static size_t take_session(struct scene *scene, uint8_t *fields)
 {
-    uint8_t fields[SESSION_OCTETS], said[SAID];
     size_t at = take_row_number(scene);
     if (at < scene->count)
         memcpy(fields, scene->row + SESSION_OCTETS * at, SESSION_OCTETS);
     else
         take_octets(scene, fields, SESSION_OCTETS);
+    return at;
+}
+
+static void store_and_load(struct scene *scene)
+{
+    uint8_t fields[SESSION_OCTETS], said[SAID];
+    take_session(scene, fields);
     take_record(scene);
     struct given given = call_of(scene, STORE);
     get_session(&given.session, fields);
@@ -502,6 +535,20 @@ static void load_octets(struct scene *scene)
     take_record(scene);
     if (load(scene, fields) == 0 && at < scene->count)
         memcpy(scene->row + SESSION_OCTETS * at, fields, SESSION_OCTETS);
+}
+
+static void wish_of_one(struct scene *scene)
+{
+    uint8_t said[SAID];
+    size_t at = take_session(scene, scene->one);
+    struct given given = call_of(scene, SESSION_WISH);
+    given.wishes = scene->wishes ^ (uint32_t)take(scene, 4);
+    given.app = (uint32_t)take(scene, 4);
+    given.disable = scene->head >> 4 & 1;
+    given.lent[ROOM] = take_room(scene);
+    compare(scene, &given, said);
+    if (at < scene->count)
+        memcpy(scene->row + SESSION_OCTETS * at, scene->one, SESSION_OCTETS);
 }
 
 static void lead_row(struct scene *scene)
@@ -523,8 +570,10 @@ static void lead_row(struct scene *scene)
             take_octets(scene, scene->limits.of, sizeof scene->limits.of);
         else if (deed == STORE_AND_LOAD)
             store_and_load(scene);
-        else
+        else if (deed == LOAD_OCTETS)
             load_octets(scene);
+        else
+            wish_of_one(scene);
     }
 }
 
@@ -540,6 +589,7 @@ int LLVMFuzzerTestOneInput(const uint8_t *data, size_t size)
     scene.source = (struct source){flag, number, fields, buffer};
     scene.input = (struct octets){data, size};
     scene.count = 0;
+    scene.wishes = 0;
     scene.head = (uint8_t)take(&scene, 1);
     if (scene.head & 0x40)
         lead_row(&scene);

@@ -110,3 +110,13 @@ SIGNATURE_load(__wrap_tacit)
 #endif
     return answer;
 }
+
+SIGNATURE_wish_sac(__wrap_tacit)
+{
+    struct tacit_written answer = __real_tacit_wish_sac(PASSED_wish_sac);
+#if FAULT == 21 /* writes an octet behind the room */
+    if (answer.written > 0 && answer.written == room_len)
+        room[room_len] ^= 1;
+#endif
+    return answer;
+}

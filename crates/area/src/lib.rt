@@ -37,7 +37,7 @@ pub const ELEMENT_LENGTH: usize = 4;
 // The types that we read.
 pub const TAC: usize = 0x050F;
 
-const SAC: usize = 0x050D;
+pub const SAC: usize = 0x050D;
 
 const DYNAMIC: usize = 0x0506;
 

@@ -7,7 +7,7 @@ use mathlib.Core.List.{List, [], _∷_}
 use lib.ListN.{getD}
 use lib.Dec.{eqb}
 use Rattle.choice.specs.Pick.{pick}
-use Rattle.sets.specs.Set.{has, union, with, numbered}
+use Rattle.sets.specs.Set.{has, union, with, numbered, holds}
 
 -- TA-Ids 1 to 13, kinds 0 to 9, SAC Apps 1 to 4
 abbrev pub applicationCount : ℕ
@@ -32,7 +32,11 @@ knownApplication n = numbered applicationCount n
 
 -- the application n is in the set
 unfoldable pub isIn : ℕ → ℕ → Bool
-isIn applications n = knownApplication n && has applications (n - 1)
+isIn applications n = holds applicationCount applications n
+
+-- an App that controls a kind: 1 to 4
+abbrev pub knownApp : ℕ → Bool
+knownApp n = numbered appCount n
 
 -- TA-Id 8, whose kinds are "the session's protected kinds"
 abbrev pub sessionProtection : ℕ
@@ -72,7 +76,7 @@ opens protects n =
 
 -- the kinds that the App n controls; "App 0 and 5 to 7 are skipped"
 unfoldable pub controlled : ℕ → ℕ
-controlled n = pick (numbered appCount n) (setOf (getD controlsTable (n - 1) [])) 0
+controlled n = pick (knownApp n) (setOf (getD controlsTable (n - 1) [])) 0
 
 -- the kinds that the number at place i of a set stands for, where it is in the set; and those of the numbers 1 to w together
 abbrev pub member : (ℕ → ℕ) → ℕ → ℕ → ℕ

@@ -1,8 +1,8 @@
 // Applications and kinds: the kinds that targeted applications open, and those that SAC Apps control.
 ghost use mathlib.Core.Path.{_≡_};
 ghost use lib.ListN.{getD};
-ghost use Rattle.sets.specs.Set.{has, switched};
-ghost use Rattle.kinds.specs.Kinds.{applicationCount, appCount, knownApplication, isIn, opened, disables};
+ghost use Rattle.sets.specs.Set.{has, holds, switched};
+ghost use Rattle.kinds.specs.Kinds.{applicationCount, appCount, knownApplication, isIn, knownApp, opened, disables};
 ghost use Rattle.kinds.specs.ByKind.{openers, kindsBy};
 
 // A targeted application by its number, as TAC has it.
@@ -66,11 +66,7 @@ impl TaId {
     pub fn is_in(self, applications: u16) -> bool
         ensures { λ r. ⌜ r ≡ isIn applications (self .0) ⌝ }
     {
-        let n = self.0;
-        if self.is_known() {
-            return sets::has(applications, (n - 1) as u16);
-        }
-        false
+        sets::holds(Self::COUNT, applications, self.0)
     }
 
     // The set of applications with this one switched on or off; an unknown one changes nothing.
@@ -83,6 +79,19 @@ impl TaId {
 
 impl SacApp {
     pub const COUNT: u32 = 4;
+
+    pub fn is_known(self) -> bool
+        ensures { λ r. ⌜ r ≡ knownApp (self .0) ⌝ }
+    {
+        sets::numbered(Self::COUNT, self.0)
+    }
+
+    // Whether the App is in the set; an unknown one is in none.
+    pub fn is_in(self, apps: u8) -> bool
+        ensures { λ r. ⌜ r ≡ holds appCount apps (self .0) ⌝ }
+    {
+        sets::holds(Self::COUNT, apps as u16, self.0)
+    }
 
     // The set of Apps with this one switched on or off; an unknown one changes nothing.
     pub fn switched(self, apps: u8, on: bool) -> u8

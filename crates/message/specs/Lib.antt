@@ -1,1 +1,2 @@
+pub mod Sac
 pub mod Message

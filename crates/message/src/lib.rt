@@ -1,16 +1,30 @@
 // The messages that events write, from their parts: a head with its number, then TLVs.
 ghost use mathlib.Core.Path.{_≡_};
-ghost use Prim.Native.Nat.{_+_, _<_};
+ghost use Prim.Native.Nat.{_+_, _<_, _≤_};
+ghost use mathlib.Core.List.{_++_};
+ghost use lib.ListN.{length};
 ghost use Rattle.octets.specs.Octets.{over};
 ghost use Rattle.area.specs.Area.{uBit, typeCount};
 ghost use Rattle.area.specs.Tlvs.{tlvHead};
-ghost use Rattle.message.specs.Message.{messageHead, oneElement, messageOf, roomWith};
+ghost use Rattle.message.specs.Message.{messageHead, oneElement, oneApp, capabilityWith, messageOf, wishOf, roomWith};
+
+pub mod sac;
 
 // What an event writes: nothing, or a message under its number.
 pub enum Message {
     NoMessage,
     // One application switched on or off.
-    Change { number: u32, ta_id: u32, on: bool },
+    Change {
+        number: u32,
+        ta_id: u32,
+        on: bool,
+    },
+    // Our wish about one App.
+    Wish {
+        number: u32,
+        app: u32,
+        disable: bool,
+    },
 }
 
 // The type of a Capability message.
@@ -19,13 +33,15 @@ const CAPABILITY: u32 = 0x0202;
 // How many octets stand before the area of a message.
 const MESSAGE_HEAD: usize = 8;
 
-// How many octets the value of a TAC with one element has, and the TLV.
+// How many octets the value of a TAC with one element has, and that of a SAC.
 const ONE_ELEMENT: usize = 1 + area::ELEMENT_LENGTH;
 
-const ONE_ELEMENT_TAC: usize = area::HEAD_LENGTH + ONE_ELEMENT;
+const ONE_APP: usize = 1 + 1;
 
-// How many octets the message of a change has.
-pub const CHANGE_LENGTH: usize = MESSAGE_HEAD + ONE_ELEMENT_TAC;
+// How many octets the message of a change has, and that of a wish.
+pub const CHANGE_LENGTH: usize = MESSAGE_HEAD + area::HEAD_LENGTH + ONE_ELEMENT;
+
+pub const WISH_LENGTH: usize = MESSAGE_HEAD + area::HEAD_LENGTH + ONE_APP;
 
 // What stands before the area of a message of type t, `len` the length of its area: the message's length counts its number too.
 fn message_head(t: u32, len: usize, number: u32) -> [u8; MESSAGE_HEAD]
@@ -68,19 +84,53 @@ fn one_element(n: u32, on: bool) -> [u8; 5]
     [s, (n / 256 % 256) as u8, (n % 256) as u8, e, 0]
 }
 
-// A change: head, then the TAC with one element. Without room for all of it nothing is written.
+// The value of a SAC with S = 1 and one element.
+fn one_app(n: u32, disable: bool) -> [u8; 2]
+    ensures { λ r. ⌜ r ≡ oneApp n disable ⌝ }
+{
+    let s = octets::top_bit(true);
+    let element = sac::app_element(n, disable);
+    [s, element]
+}
+
+// Three parts, one behind the other. Without room for all of them nothing is written.
+fn put_parts(room: &mut [u8], first: &[u8], second: &[u8], third: &[u8])
+    requires { ⌜ (length (now first) ≤ 8) × (length (now second) ≤ 4) × (length (now third) ≤ 5) ⌝ }
+    ensures { λ _. ⌜ now (room .exit) ≡ over ((now (first .entry) ++ now (second .entry)) ++ now (third .entry)) (now (room .entry)) ⌝ }
+{
+    let behind = first.len() + second.len();
+    if room.len() < behind + third.len() {
+        return;
+    }
+    octets::put(room, first);
+    octets::put_at(room, first.len(), second);
+    octets::put_at(room, behind, third);
+}
+
+// A Capability message with one TLV of ours, of type t. Without room for all of it nothing is written.
+fn write_with(room: &mut [u8], number: u32, t: usize, value: &[u8])
+    requires { ⌜ (t < typeCount) × (length (now value) ≤ 5) ⌝ }
+    ensures { λ _. ⌜ now (room .exit) ≡ over (capabilityWith number t (now (value .entry))) (now (room .entry)) ⌝ }
+{
+    let head = message_head(CAPABILITY, area::HEAD_LENGTH + value.len(), number);
+    let tlv = tlv_head(t, value.len());
+    put_parts(room, &head, &tlv, value);
+}
+
+// A change: the TAC with one element.
 fn write_change(room: &mut [u8], number: u32, n: u32, on: bool)
     ensures { λ _. ⌜ now (room .exit) ≡ over (messageOf number n on) (now (room .entry)) ⌝ }
 {
-    if room.len() < CHANGE_LENGTH {
-        return;
-    }
-    let head = message_head(CAPABILITY, ONE_ELEMENT_TAC, number);
-    let tlv = tlv_head(area::TAC, ONE_ELEMENT);
     let value = one_element(n, on);
-    octets::put(room, &head);
-    octets::put_at(room, MESSAGE_HEAD, &tlv);
-    octets::put_at(room, MESSAGE_HEAD + area::HEAD_LENGTH, &value);
+    write_with(room, number, area::TAC, &value);
+}
+
+// A wish: the SAC with one element.
+fn write_wish(room: &mut [u8], number: u32, n: u32, disable: bool)
+    ensures { λ _. ⌜ now (room .exit) ≡ over (wishOf number n disable) (now (room .entry)) ⌝ }
+{
+    let value = one_app(n, disable);
+    write_with(room, number, area::SAC, &value);
 }
 
 // Puts the message over the front of the room where octets were said to be written; else the room stays.
@@ -93,5 +143,10 @@ pub fn write(room: &mut [u8], written: u16, message: Message)
     match message {
         Message::NoMessage => {}
         Message::Change { number, ta_id, on } => write_change(room, number, ta_id, on),
+        Message::Wish {
+            number,
+            app,
+            disable,
+        } => write_wish(room, number, app, disable),
     }
 }

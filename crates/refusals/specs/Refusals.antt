@@ -33,15 +33,15 @@ outOfRange = 6
 abbrev pub wrongState : ℕ
 wrongState = 7
 
--- "a local change to be written with under 17 octets of room"
+-- "a local change to be written with under 17 octets of room"; L2: a wish "under 14 octets", a SAC under its own length
 abbrev pub noRoom : ℕ
 noRoom = 8
 
--- "a local change to be written (in Open, TAC used), peer not dynamic"
+-- "a local change to be written (in Open, TAC used), peer not dynamic"; L2: a wish, "TAC used or not"
 abbrev pub peerNotDynamic : ℕ
 peerNotDynamic = 9
 
--- "the session or record handed in is not sound, or the room for a new one is not of its size"
+-- "the session or record handed in is not sound, or the room for a new one is not of its size"; L2: "kept wishes with spare bits"
 abbrev pub notSound : ℕ
 notSound = 10
 
@@ -52,3 +52,7 @@ outsideRow = 11
 -- L1: setting a limit, "12 for one over 64"
 abbrev pub limitTooHigh : ℕ
 limitTooHigh = 12
+
+-- L2: "15, App outside 1 to 4"
+abbrev pub unknownApp : ℕ
+unknownApp = 15

@@ -24,3 +24,5 @@ pub const NOT_SOUND: u8 = 10;
 pub const OUTSIDE_ROW: u8 = 11;
 
 pub const LIMIT_TOO_HIGH: u8 = 12;
+
+pub const UNKNOWN_APP: u8 = 15;

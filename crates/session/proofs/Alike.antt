@@ -13,7 +13,7 @@ use Rattle.session.specs.declared.After.{After}
 use Rattle.session.specs.Session.{isOpen, inForce, negotiated, nothingCommon}
 use Rattle.session.specs.With.{withOtherEnabled}
 use Rattle.session.specs.Limits.{atLimit}
-use Rattle.session.specs.Decisions.{answered, Done, AsMismatch, Negotiate, Admit, Send, settled}
+use Rattle.session.specs.Decisions.{answered, Done, AsMismatch, Negotiate, Admit, Send, Tell, settled}
 use Rattle.session.proofs.Made.{never, mismatched-shut}
 
 pub record Alike (s t : Session) : Type 0 where
@@ -59,6 +59,11 @@ unless-shut x x′ f m m′ z z′ shut al = go x refl
         subst (λ (w : After). Alike (w .session) (pick x′ m′ z′ .session)) (sym (left m z q))
         (subst (λ (w : After). Alike (z .session) (w .session)) (sym (left m′ z′ (f q)))
         (al (sym (ap (λ (w : After). isOpen (w .session)) (left m z q)) ∙ k)))
+
+-- ---- a message about what stands beside the session
+pub tell-follows : (s : Session) (e n : ℕ) → Within (s .enabled) e → (written : ℕ) → Follows (settled s (Tell written)) (settled (withOtherEnabled s e n) (Tell written))
+unfolding settled answered
+tell-follows s e n h written _ = record { same-else = refl; more = h }
 
 -- ---- the same decision in both, of t and of t with e enabled
 module _ (s s′ t : Session) (e n : ℕ) (h : Within (t .enabled) e) where

@@ -21,8 +21,8 @@ use Rattle.session.specs.declared.After.{After}
 use Rattle.session.specs.Session.{isReady, isOpen, inForce, negotiated, nothingCommon, sound, Sound, Narrow, permitted}
 use Rattle.session.specs.With.{withEnabled, mismatched}
 use Rattle.session.specs.Limits.{atLimit}
-use Rattle.session.specs.Decisions.{outcomeMismatch, outcomeAtLimit, refused, answered, Decision, Refused, Unchanged, Done, AsMismatch, Negotiate, Admit, Send, settled}
-use Rattle.session.specs.Events.{checked, unlessRefused, afterInitialization, onInitialization, onCapability, onLocalChange, onMismatch, onHello, onClosed, onUnknown, Event, Initialization, Capability, LocalChange, Mismatch, Hello, Closed, Unknown, Numbered, decision, step}
+use Rattle.session.specs.Decisions.{outcomeMismatch, outcomeAtLimit, refused, answered, Decision, Refused, Unchanged, Done, AsMismatch, Negotiate, Admit, Send, Tell, settled}
+use Rattle.session.specs.Events.{checked, unlessRefused, afterInitialization, onInitialization, onCapability, onLocalChange, onWish, onMismatch, onHello, onClosed, onUnknown, Event, Initialization, Capability, LocalChange, Wish, Mismatch, Hello, Closed, Unknown, Numbered, decision, step}
 use Rattle.session.proofs.SoundMeans.{sound-means, means-sound}
 use Rattle.session.proofs.Made.{ready-shut, mismatched-sound, mismatched-shut, next-sound, own-mismatched}
 use Rattle.session.proofs.View.{Makes, MakesFound, admits-opens, Facts, facts-of}
@@ -42,6 +42,7 @@ module _ (s : Session) (r : Sound s) where
   settled-sound e (Admit t belowLimit) f =
       by-test Kept (λ _. mismatched-sound t (f .0 .makes .basic)) (λ q. by-test Kept (λ _. mismatched-sound t (f .0 .makes .basic)) (λ _. f .0 .makes .is-sound q))
   settled-sound e (Send t written) f = by-test Kept (λ _. mismatched-sound t (f .0 .makes .basic)) (λ q. next-sound t _ (f .0 .makes .is-sound q))
+  settled-sound e (Tell written) f = next-sound s _ r
 
   pub step-sound : (e : Event) → Sound (step s e .session)
   step-sound e = settled-sound e (decision s e) (facts-of s r e)
@@ -71,6 +72,7 @@ module _ (s : Session) (r : Sound s) (n : Narrow s) where
   settled-narrow e k (Send t written) f =
       let small = f .0 .makes .narrow n k in
       by-test Fits (λ _. mismatched-narrow t small) (λ _. record { hello = small .hello; next = mod-lt (t .next + 1) (pow-pos 32) })
+  settled-narrow e k (Tell written) f = record { hello = n .hello; next = mod-lt (s .next + 1) (pow-pos 32) }
 
   pub step-narrow : (e : Event) → Numbered e → Narrow (step s e .session)
   step-narrow e k = settled-narrow e k (decision s e) (facts-of s r e)
@@ -90,16 +92,18 @@ module _ (s : Session) where
   settled-bare (Negotiate t) = by-test Bare (λ _ h. absurd (h refl)) (λ _ h. absurd (h refl))
   settled-bare (Admit t belowLimit) = by-test Bare (λ _ h. absurd (h refl)) (λ _. by-test Bare (λ _ h. absurd (h refl)) (λ _ h. absurd (h refl)))
   settled-bare (Send t written) = by-test Bare (λ _ h. absurd (h refl)) (λ _ h. absurd (h refl))
+  settled-bare (Tell written) = λ h. absurd (h refl)
 
   pub step-bare : (e : Event) → Bare (step s e)
   step-bare e = settled-bare (decision s e)
 
 -- ---- 10 before all others: a session that is not sound is refused whatever the event
 unsound-decided : (s : Session) (e : Event) → sound s ≡ false → decision s e ≡ Refused notSound
-unfolding onInitialization onCapability onLocalChange onMismatch onHello onClosed onUnknown
+unfolding onInitialization onCapability onLocalChange onWish onMismatch onHello onClosed onUnknown
 unsound-decided s (Initialization area belowLimit) h = left _ _ h
 unsound-decided s (Capability area) h = left _ _ h
 unsound-decided s (LocalChange n on room) h = left _ _ h
+unsound-decided s (Wish wishes n disable room) h = left _ _ h
 unsound-decided s Mismatch h = left _ _ h
 unsound-decided s (Hello number) h = left _ _ h
 unsound-decided s Closed h = left _ _ h
@@ -135,6 +139,7 @@ module _ (s : Session) where
       (λ l _. record { session = t; belowLimit = belowLimit; admit = refl; common = q; at-limit = l; is = left _ _ q ∙ taken _ _ l })
       (λ _ h. absurd (omega arith)))
   turned-away (Send t written) = by-test (AtLimit (Send t written)) (λ _ h. absurd (omega arith)) (λ _ h. absurd (omega arith))
+  turned-away (Tell written) = λ h. absurd (omega arith)
 
 -- ---- where every application is below its limit, none turns a session away
 -- a set of applications has nothing but applications
@@ -254,6 +259,7 @@ module _ (s : Session) (r : Sound s) (e : Event) where
   settled-told (Admit t belowLimit) f =
       by-test OneEffect (λ _. finds t (f .0)) (λ _. by-test OneEffect (λ _ h. absurd (omega arith)) (λ _ h. absurd (omega arith)))
   settled-told (Send t written) f = by-test OneEffect (λ _. finds t (f .0)) (λ _ h. absurd (omega arith))
+  settled-told (Tell written) f = λ h. absurd (omega arith)
 
   pub as-told : OneEffect (step s e)
   as-told = settled-told (decision s e) (facts-of s r e)

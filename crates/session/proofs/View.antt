@@ -10,22 +10,23 @@ use borrow.Author.Tests.{eqb-true, leb-true}
 use Rattle.choice.specs.Pick.{pick}
 use Rattle.choice.proofs.Branch.{by-test, pick-both, taken}
 use Rattle.choice.proofs.Tests.{and-first, and-second, and-both, or-first, or-second}
-use Rattle.sets.specs.Set.{has, one, empty, Within, switched}
+use Rattle.sets.specs.Set.{has, one, empty, Within, holds, switched}
 use Rattle.sets.proofs.Flags as flag
 use Rattle.sets.proofs.Switches.{within-both, within-first, within-second}
-use Rattle.refusals.specs.Refusals.{notRefused, outOfRange, wrongState, noRoom, peerNotDynamic}
-use Rattle.kinds.specs.Kinds.{applicationCount, knownApplication, isIn}
+use Rattle.refusals.specs.Refusals.{notRefused, outOfRange, wrongState, noRoom, peerNotDynamic, notSound, unknownApp}
+use Rattle.kinds.specs.Kinds.{applicationCount, appCount, knownApplication, isIn, knownApp}
 use Rattle.area.specs.Area.{readArea}
-use Rattle.message.specs.Message.{changeLength}
+use Rattle.message.specs.Message.{changeLength, wishLength}
+use Rattle.wishes.specs.Wishes.{soundWishes}
 use Rattle.session.specs.declared.Session.{Session}
 use Rattle.session.specs.declared.After.{After}
 use Rattle.session.specs.Session.{stateReady, stateOpen, isReady, isOpen, isGone, usesTac, inForce, dynamic, recorded, usesTacBit, inForceBit, recordedBit, clearedOutOfOpen, negotiated, nothingCommon, Sound, Narrow}
 use Rattle.session.specs.With.{withEnabled, withNext, withOtherEnabled, backToReady, mismatched, heldToReady, greeted, changed}
-use Rattle.session.specs.Decisions.{answered, unchanged, Decision, Refused, Unchanged, Done, AsMismatch, Negotiate, Admit, Send, settled}
-use Rattle.session.specs.Events.{checked, afterInitialization, onInitialization, afterCapability, flagsAfter, listAfter, onCapability, same, already, writing, onLocalChange, onMismatch, onHello, onClosed, onUnknown, Event, Initialization, Capability, LocalChange, Mismatch, Hello, Closed, Unknown, Numbered, decision}
+use Rattle.session.specs.Decisions.{answered, unchanged, Decision, Refused, Unchanged, Done, AsMismatch, Negotiate, Admit, Send, Tell, settled}
+use Rattle.session.specs.Events.{checked, afterInitialization, onInitialization, afterCapability, flagsAfter, listAfter, onCapability, same, already, writing, onLocalChange, telling, onWish, onMismatch, onHello, onClosed, onUnknown, Event, Initialization, Capability, LocalChange, Wish, Mismatch, Hello, Closed, Unknown, Numbered, decision}
 use Rattle.session.proofs.SoundMeans.{means-sound}
 use Rattle.session.proofs.Made.{never, Basic, basic, back-sound, mismatched-shut, to-ready, gone-shut, greeted-sound, sound-common, changed-basic, changed-sound, opened-uses, opened-basic, opened-sound, own-mismatched, changed-mismatched, opened-mismatched, told-uses, told-basic, told-sound, told-mismatched}
-use Rattle.session.proofs.Alike.{Alike, alike, Follows, common-more, mismatch-follows, done-follows, negotiate-follows, admit-follows, send-follows}
+use Rattle.session.proofs.Alike.{Alike, alike, Follows, common-more, mismatch-follows, done-follows, negotiate-follows, admit-follows, send-follows, tell-follows}
 
 -- ---- what is known of a session that an event makes
 -- an application was changed, which was not so already
@@ -39,6 +40,7 @@ abbrev pub Enabling : Session → Event → Session → Type 0
 Enabling s (Initialization area belowLimit) t = t .enabled ≡ s .enabled
 Enabling s (Capability area) t = t .enabled ≡ s .enabled
 Enabling s (LocalChange n on room) t = Changes s n on t
+Enabling s (Wish wishes n disable room) t = t .enabled ≡ s .enabled
 Enabling s Mismatch t = t .enabled ≡ s .enabled
 Enabling s (Hello number) t = t .enabled ≡ s .enabled
 Enabling s Closed t = t .enabled ≡ s .enabled
@@ -82,6 +84,7 @@ abbrev pub Admits : Session → Event → Session → ℕ → Type 0
 Admits s (Initialization area belowLimit) t b = Opens s area t × (b ≡ belowLimit)
 Admits s (Capability area) t b = ⊥
 Admits s (LocalChange n on room) t b = ⊥
+Admits s (Wish wishes n disable room) t b = ⊥
 Admits s Mismatch t b = ⊥
 Admits s (Hello number) t b = ⊥
 Admits s Closed t b = ⊥
@@ -92,12 +95,13 @@ pub admits-opens : (s : Session) (e : Event) (t : Session) (b : ℕ) → Admits 
 admits-opens s (Initialization area belowLimit) t b f = (area, f .0)
 admits-opens s (Capability area) t b f = absurd f
 admits-opens s (LocalChange n on room) t b f = absurd f
+admits-opens s (Wish wishes n disable room) t b f = absurd f
 admits-opens s Mismatch t b f = absurd f
 admits-opens s (Hello number) t b f = absurd f
 admits-opens s Closed t b f = absurd f
 admits-opens s Unknown t b f = absurd f
 
--- only a local change writes, and only in Open with room for it
+-- only a local change is sent, and only in Open with room for it
 pub record Writes (s : Session) (room written : ℕ) : Type 0 where
   pub is-open : isOpen s ≡ true
   pub long : written ≡ changeLength
@@ -107,10 +111,31 @@ abbrev pub Sends : Session → Event → ℕ → Type 0
 Sends s (Initialization area belowLimit) written = ⊥
 Sends s (Capability area) written = ⊥
 Sends s (LocalChange n on room) written = Writes s room written
+Sends s (Wish wishes n disable room) written = ⊥
 Sends s Mismatch written = ⊥
 Sends s (Hello number) written = ⊥
 Sends s Closed written = ⊥
 Sends s Unknown written = ⊥
+
+-- only a wish is told, one that was not so already: in Open, to a dynamic peer, with room for it
+pub record TellsWish (s : Session) (wishes n : ℕ) (disable : Bool) (room written : ℕ) : Type 0 where
+  pub is-open : isOpen s ≡ true
+  pub is-dynamic : dynamic s ≡ true
+  pub kept : soundWishes wishes ≡ true
+  pub known : knownApp n ≡ true
+  pub not-so : same (holds appCount wishes n) disable ≡ false
+  pub long : written ≡ wishLength
+  pub enough : wishLength ≤ room
+
+abbrev pub Tells : Session → Event → ℕ → Type 0
+Tells s (Initialization area belowLimit) written = ⊥
+Tells s (Capability area) written = ⊥
+Tells s (LocalChange n on room) written = ⊥
+Tells s (Wish wishes n disable room) written = TellsWish s wishes n disable room written
+Tells s Mismatch written = ⊥
+Tells s (Hello number) written = ⊥
+Tells s Closed written = ⊥
+Tells s Unknown written = ⊥
 
 -- ---- the facts of each decision
 abbrev pub Facts : Session → Event → Decision → Type 0
@@ -121,6 +146,7 @@ Facts s e (AsMismatch t) = MakesFound s e t
 Facts s e (Negotiate t) = MakesFound s e t
 Facts s e (Admit t belowLimit) = MakesFound s e t × Admits s e t belowLimit
 Facts s e (Send t written) = MakesFound s e t × Sends s e written
+Facts s e (Tell written) = Tells s e written
 
 -- the facts of what the first comes to, and what follows from it for the second
 pub record View (s s′ : Session) (e : Event) (c c′ : Decision) : Type 0 where
@@ -248,6 +274,30 @@ module _ (s : Session) (e m : ℕ) (h : Within (s .enabled) e) (r : Sound s) (r�
   unknown-view : View s (withOtherEnabled s e m) Unknown (onUnknown s) (onUnknown (withOtherEnabled s e m))
   unfolding onUnknown
   unknown-view = both-checked s e m h Unknown r r′ _ _ (refuses s e m h Unknown wrongState)
+
+  -- ---- Our wish
+  wish-view : (wishes n : ℕ) (disable : Bool) (room : ℕ)
+      → View s (withOtherEnabled s e m) (Wish wishes n disable room) (onWish s wishes n disable room) (onWish (withOtherEnabled s e m) wishes n disable room)
+  unfolding onWish telling
+  wish-view wishes n disable room =
+      let ev = Wish wishes n disable room in
+      let W = View s (withOtherEnabled s e m) ev in
+      both-checked s e m h ev r r′ _ _
+      (pick-both W (soundWishes wishes)
+      (λ kept. pick-both W (knownApp n)
+      (λ known. pick-both W (same (holds appCount wishes n) disable) (λ _. stays s e m h ev)
+      (λ not-so. pick-both W (isOpen s)
+      (λ o. pick-both W (dynamic s)
+      (λ d. pick-both W (leb wishLength room)
+      (λ l. record {
+        facts = record { is-open = o; is-dynamic = d; kept = kept; known = known; not-so = not-so; long = refl; enough = leb-true wishLength room l };
+        follows = tell-follows s e m h wishLength;
+      })
+      (λ _. refuses s e m h ev noRoom))
+      (λ _. refuses s e m h ev peerNotDynamic))
+      (λ _. refuses s e m h ev wrongState)))
+      (λ _. refuses s e m h ev unknownApp))
+      (λ _. refuses s e m h ev notSound))
 
   -- ---- Hello: the Hello is recorded, in a state that is Open exactly where it was
   greets : (number state : ℕ) → Sound (greeted s state number) → (isOpen s ≡ false → eqb state stateOpen ≡ false) → MakesStill s (Hello number) (greeted s state number)
@@ -440,6 +490,7 @@ module _ (s : Session) (e m : ℕ) (h : Within (s .enabled) e) (r : Sound s) (r�
   view (Initialization a b) = initialization-view s e m h r r′ a b
   view (Capability a) = capability-view s e m h r r′ a
   view (LocalChange n on room) = local-change-view s e m h r r′ n room on
+  view (Wish wishes n disable room) = wish-view s e m h r r′ wishes n disable room
   view Mismatch = mismatch-view s e m h r r′
   view (Hello number) = hello-view s e m h r r′ number
   view Closed = closed-view s e m h r r′

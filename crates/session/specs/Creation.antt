@@ -5,6 +5,9 @@ use Rattle.choice.specs.Pick.{pick}
 use Rattle.sets.specs.Set.{one, union, below}
 use Rattle.refusals.specs.Refusals.{notRefused, outOfRange}
 use Rattle.kinds.specs.Kinds.{applicationCount, kindCount}
+use Rattle.wishes.specs.Wishes.{soundWishes}
+use Rattle.session.specs.declared.Session.{Session}
+use Rattle.session.specs.declared.Settings.{Settings}
 use Rattle.session.specs.declared.Created.{Created}
 use Rattle.session.specs.declared.Created.the-variants.{Fresh, Refused}
 use Rattle.session.specs.Session.{initiatingBit, activeBit, usesTacBit, dropsBit}
@@ -19,10 +22,14 @@ abbrev pub roleFlags : Bool → Bool → Bool → Bool → ℕ
 roleFlags initiating active usesTac drops =
     raised (raised (raised (raised 0 initiating (one initiatingBit)) active (one activeBit)) usesTac (one usesTacBit)) drops (one dropsBit)
 
--- 6 for "a set with bits beyond these": kinds 0 to 9, applications 1 to 13
-unfoldable pub created : ℕ → ℕ → ℕ → ℕ → Created
-created flags protects enabled first =
-    pick (below kindCount protects && below applicationCount enabled) (Fresh (fresh flags protects enabled first)) (Refused outOfRange)
+-- the fresh session of what is settled
+abbrev pub freshBy : Settings → Session
+freshBy t = fresh (roleFlags (t .initiating) (t .active) (t .«uses_tac») (t .drops)) (t .«protected_kinds») (t .enabled) (t .«first_number»)
+
+-- 6 for "a set with bits beyond these": kinds 0 to 9, applications 1 to 13, and of our wishes, which stand beside the session, Apps 1 to 4
+unfoldable pub created : Settings → Created
+created t =
+    pick (below kindCount (t .«protected_kinds») && (below applicationCount (t .enabled) && soundWishes (t .wishes))) (Fresh (freshBy t)) (Refused outOfRange)
 
 -- the refusal number of each case, "0 for none"
 abbrev pub refusalOf : Created → ℕ

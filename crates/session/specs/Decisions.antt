@@ -61,6 +61,8 @@ pub data Decision : Type 0 where
   Admit : Session → ℕ → Decision
   -- the same as Negotiate, and a message of so many octets is written
   Send : Session → ℕ → Decision
+  -- the session as it is, and a message of so many octets about what stands beside it is written
+  Tell : ℕ → Decision
 
 -- "no application both enabled and listed: mismatch", else what is asked next
 abbrev pub unlessNothingCommon : Session → Session → After → After
@@ -77,3 +79,4 @@ settled s (Admit t belowLimit) =
     unlessNothingCommon s t
     (pick (atLimit t belowLimit) (answered s (mismatched t) outcomeAtLimit 0) (answered s t outcomeDone 0))
 settled s (Send t written) = unlessNothingCommon s t (answered s (withNextNumber t) outcomeDone written)
+settled s (Tell written) = answered s (withNextNumber s) outcomeDone written

@@ -1,27 +1,28 @@
 -- States and events: what each event is decided to come to, by the tests of document 01 in its order. "Order: 10, 7, 1, then TLVs from the left";
--- "local change: 10, 6, Unchanged, 9, 8". Assumes nothing.
+-- "local change: 10, 6, Unchanged, 9, 8"; a wish by L2: 10, 15, Unchanged, 7, 9, 8. Assumes nothing.
 use Prim.Native.Nat.{ℕ, _^_, _<_}
 use mathlib.Core.Bool.{Bool, true, false, not, _&&_, _||_}
 use mathlib.Core.List.{List, [], _∷_}
 use lib.Dec.{eqb, ltb, leb}
 use Rattle.choice.specs.Pick.{pick}
-use Rattle.sets.specs.Set.{one, union, minus}
-use Rattle.refusals.specs.Refusals.{notRefused, outOfRange, wrongState, noRoom, peerNotDynamic, notSound}
-use Rattle.kinds.specs.Kinds.{knownApplication, isIn}
+use Rattle.sets.specs.Set.{one, union, minus, holds}
+use Rattle.refusals.specs.Refusals.{notRefused, outOfRange, wrongState, noRoom, peerNotDynamic, notSound, unknownApp}
+use Rattle.kinds.specs.Kinds.{appCount, knownApplication, isIn, knownApp}
 use Rattle.area.specs.declared.Reading.{Reading}
 use Rattle.area.specs.Found.{tacStood}
 use Rattle.area.specs.Area.{readArea, part}
 use Rattle.lists.specs.Tac.{sBit, tacList}
 use Rattle.lists.specs.Sac.{sacList}
 use Rattle.message.specs.declared.Message.{Message}
-use Rattle.message.specs.declared.Message.the-variants.{NoMessage, Change}
-use Rattle.message.specs.Message.{changeLength, roomWith}
+use Rattle.message.specs.declared.Message.the-variants.{NoMessage, Change, Wish as WishMessage}
+use Rattle.message.specs.Message.{changeLength, wishLength, roomWith}
+use Rattle.wishes.specs.Wishes.{soundWishes}
 use Rattle.session.specs.declared.Session.{Session}
 use Rattle.session.specs.declared.After.{After}
 use Rattle.session.specs.Session.{stateReady, stateOpen, isReady, isOpen, isGone, usesTac, inForce, dynamic, recorded, inForceBit, dynamicBit, sound}
 use Rattle.session.specs.With.{withState, withFlags, withDisabled, withListed, backToReady, heldToReady, greeted, changed}
 use Rattle.session.specs.Creation.{raised}
-use Rattle.session.specs.Decisions.{Decision, Refused, Unchanged, Done, AsMismatch, Negotiate, Admit, Send, settled}
+use Rattle.session.specs.Decisions.{Decision, Refused, Unchanged, Done, AsMismatch, Negotiate, Admit, Send, Tell, settled}
 
 -- 10 for a session that is not sound, before all others
 abbrev pub checked : Session → Decision → Decision
@@ -99,6 +100,24 @@ onLocalChange s n on room =
     (pick (already s n on) Unchanged (writing s (changed s n on) room))
     (Refused outOfRange))
 
+-- ---- Our wish about one App, beside the wishes that are kept
+-- "7 when not Open, 9 when the peer is not dynamic (TAC used or not), 8 under 14 octets"
+unfoldable pub telling : Session → ℕ → Decision
+telling s room =
+    pick (isOpen s)
+    (pick (dynamic s) (pick (leb wishLength room) (Tell wishLength) (Refused noRoom)) (Refused peerNotDynamic))
+    (Refused wrongState)
+
+-- "10, also for kept wishes with spare bits; 15, App outside 1 to 4; then Unchanged"
+unfoldable pub onWish : Session → ℕ → ℕ → Bool → ℕ → Decision
+onWish s wishes n disable room =
+    checked s
+    (pick (soundWishes wishes)
+    (pick (knownApp n)
+    (pick (same (holds appCount wishes n) disable) Unchanged (telling s room))
+    (Refused unknownApp))
+    (Refused notSound))
+
 -- ---- Mismatch notification received (Ready or Open): as a mismatch
 unfoldable pub onMismatch : Session → Decision
 onMismatch s = checked s (pick (isReady s || isOpen s) (AsMismatch s) (Refused wrongState))
@@ -126,6 +145,7 @@ pub data Event : Type 0 where
   Initialization : List ℕ → ℕ → Event
   Capability : List ℕ → Event
   LocalChange : ℕ → Bool → ℕ → Event
+  Wish : ℕ → ℕ → Bool → ℕ → Event
   Mismatch : Event
   Hello : ℕ → Event
   Closed : Event
@@ -136,6 +156,7 @@ abbrev pub Numbered : Event → Type 0
 Numbered (Initialization area belowLimit) = Unit {0}
 Numbered (Capability area) = Unit {0}
 Numbered (LocalChange n on room) = Unit {0}
+Numbered (Wish wishes n disable room) = Unit {0}
 Numbered Mismatch = Unit {0}
 Numbered (Hello number) = number < 2 ^ 32
 Numbered Closed = Unit {0}
@@ -145,6 +166,7 @@ abbrev pub decision : Session → Event → Decision
 decision s (Initialization area belowLimit) = onInitialization s area belowLimit
 decision s (Capability area) = onCapability s area
 decision s (LocalChange n on room) = onLocalChange s n on room
+decision s (Wish wishes n disable room) = onWish s wishes n disable room
 decision s Mismatch = onMismatch s
 decision s (Hello number) = onHello s number
 decision s Closed = onClosed s
@@ -164,6 +186,7 @@ abbrev pub messageFor : Session → Event → Message
 messageFor s (Initialization area belowLimit) = NoMessage
 messageFor s (Capability area) = NoMessage
 messageFor s (LocalChange n on room) = Change (s .next) n on
+messageFor s (Wish wishes n disable room) = WishMessage (s .next) n disable
 messageFor s Mismatch = NoMessage
 messageFor s (Hello number) = NoMessage
 messageFor s Closed = NoMessage

@@ -3,6 +3,7 @@ ghost use mathlib.Core.Path.{_≡_};
 ghost use Rattle.session.specs.Creation.{roleFlags, created};
 use crate::Created;
 use crate::Session;
+use crate::Settings;
 use kinds::TaId;
 
 impl Session {
@@ -22,19 +23,19 @@ impl Session {
     }
 
     // State Ready and no Hello recorded; refused with 6 for a set with bits beyond its limits.
-    pub fn new(
-        initiating: bool,
-        active: bool,
-        uses_tac: bool,
-        drops: bool,
-        protects: u32,
-        enabled: u32,
-        first: u32,
-    ) -> Created
-        ensures { λ r. ⌜ r ≡ created (roleFlags initiating active «uses_tac» drops) protects enabled first ⌝ }
+    pub fn new(settings: Settings) -> Created
+        ensures { λ r. ⌜ r ≡ created settings ⌝ }
     {
-        let roles = Self::roles(initiating, active, uses_tac, drops);
-        if (protects < Self::KINDS_LIMIT) & (enabled < Self::APPLICATIONS_LIMIT) {
+        let protects = settings.protected_kinds;
+        let enabled = settings.enabled;
+        let roles = Self::roles(
+            settings.initiating,
+            settings.active,
+            settings.uses_tac,
+            settings.drops,
+        );
+        let kept = wishes::sound(settings.wishes);
+        if (protects < Self::KINDS_LIMIT) & ((enabled < Self::APPLICATIONS_LIMIT) & kept) {
             return Created::Fresh(Session {
                 state: Self::READY,
                 flags: roles,
@@ -43,7 +44,7 @@ impl Session {
                 listed: 0,
                 protects: protects as u16,
                 hello: 0,
-                next: first,
+                next: settings.first_number,
             });
         }
         Created::Refused(refusals::OUT_OF_RANGE)

@@ -21,6 +21,7 @@ mod permitted;
 mod questions;
 mod sound;
 mod unknown;
+mod wish;
 
 #[repr(C)]
 pub struct Session {
@@ -49,6 +50,19 @@ pub struct Answer {
 pub struct After {
     pub session: Session,
     pub answer: Answer,
+}
+
+// What is settled at creation, and our wishes.
+#[repr(C)]
+pub struct Settings {
+    pub initiating: bool,
+    pub active: bool,
+    pub uses_tac: bool,
+    pub drops: bool,
+    pub protected_kinds: u32,
+    pub enabled: u32,
+    pub first_number: u32,
+    pub wishes: u32,
 }
 
 // What creation answers.

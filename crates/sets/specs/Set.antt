@@ -62,6 +62,10 @@ below w s = ltb s (2 ^ w)
 unfoldable pub numbered : ℕ → ℕ → Bool
 numbered w n = leb 1 n && leb n w
 
+-- n is one of them and in s
+abbrev pub holds : ℕ → ℕ → ℕ → Bool
+holds w s n = numbered w n && has s (n - 1)
+
 -- s with n switched on or off; a number that is none of them changes nothing
 unfoldable pub switched : ℕ → ℕ → ℕ → Bool → ℕ
 switched w s n on = pick (numbered w n) (pick on (with s (n - 1)) (without s (n - 1))) s

@@ -2,7 +2,7 @@
 // widened on its way in.
 ghost use mathlib.Core.Path.{_≡_};
 ghost use Prim.Native.Nat.{_<_, _≤_};
-ghost use Rattle.sets.specs.Set.{setWidth, has, common, meets, union, minus, with, without, numbered, switched};
+ghost use Rattle.sets.specs.Set.{setWidth, has, common, meets, union, minus, with, without, numbered, holds, switched};
 
 // The members of a set are below this.
 const WIDTH: u16 = 16;
@@ -67,6 +67,17 @@ pub fn numbered(w: u32, n: u32) -> bool
         return false;
     }
     n <= w
+}
+
+// Whether n is one of the numbers 1 to w and in the set.
+pub fn holds(w: u32, s: u16, n: u32) -> bool
+    requires { ⌜ w ≤ setWidth ⌝ }
+    ensures { λ r. ⌜ r ≡ holds w s n ⌝ }
+{
+    if numbered(w, n) {
+        return has(s, (n - 1) as u16);
+    }
+    false
 }
 
 // The number n of 1 to w switched on or off; any other number changes nothing.

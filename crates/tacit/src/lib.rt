@@ -5,8 +5,9 @@ ghost use lib.ListN.{length};
 ghost use Rattle.kinds.specs.Kinds.{allApplications};
 ghost use Rattle.area.specs.Area.{readArea};
 ghost use Rattle.session.specs.Session.{sound};
-ghost use Rattle.session.specs.Creation.{roleFlags, created};
-ghost use Rattle.session.specs.Events.{Initialization, Capability, LocalChange, Mismatch, Hello, Closed, step, roomAfter};
+ghost use Rattle.wishes.specs.Wishes.{wishesAfter, wanted, wishSac, sacRoom};
+ghost use Rattle.session.specs.Creation.{created};
+ghost use Rattle.session.specs.Events.{Initialization, Capability, LocalChange, Wish, Mismatch, Hello, Closed, step, roomAfter};
 ghost use Rattle.session.specs.Questions.{permittedKinds, permission, whyNot, retryInterval};
 ghost use Rattle.record.specs.Record.{decoded};
 ghost use Rattle.record.specs.Carried.{Carried};
@@ -15,6 +16,7 @@ ghost use Rattle.row.specs.Limiting.{noLimits, limited};
 ghost use Rattle.row.specs.Row.{eventAt, rowAfter, roomAfter as rowRoom, countOf};
 ghost use Rattle.tacit.specs.Creation.{CreatedIn};
 use area::Reading;
+use kinds::SacApp;
 use kinds::TaId;
 use message::Message;
 use record::Loaded;
@@ -29,6 +31,16 @@ use session::Permission;
 use session::Reason;
 use session::Retry;
 use session::Session;
+use session::Settings;
+use wishes::Want;
+use wishes::Written;
+
+// What a wish answers, and the wishes after it.
+#[repr(C)]
+pub struct Wished {
+    pub answer: Answer,
+    pub wishes: u32,
+}
 
 #[no_mangle]
 pub extern "C" fn tacit_initialization(lent: &mut [u8], area: &[u8]) -> Answer
@@ -65,6 +77,34 @@ pub extern "C" fn tacit_local_change(
     };
     message::write(room, after.answer.written, message);
     record::carry(lent, after)
+}
+
+#[no_mangle]
+pub extern "C" fn tacit_wish(
+    lent: &mut [u8],
+    wishes: u32,
+    app: u32,
+    disable: bool,
+    room: &mut [u8],
+) -> Wished
+    ensures { λ r. ⌜ Carried (step (decoded (now (lent .entry))) (Wish wishes app disable (length (now (room .entry))))) (now (lent .entry)) (r .answer) (now (lent .exit)) ⌝ }
+    ensures { λ r. ⌜ r .wishes ≡ wishesAfter wishes app disable (r .answer .refusal) ⌝ }
+    ensures { λ _. ⌜ now (room .exit) ≡ roomAfter (decoded (now (lent .entry))) (Wish wishes app disable (length (now (room .entry)))) (now (room .entry)) ⌝ }
+{
+    let before = record::decoded(lent);
+    let after = before.wish(wishes, SacApp(app), disable, room.len());
+    let message = Message::Wish {
+        number: before.next,
+        app,
+        disable,
+    };
+    message::write(room, after.answer.written, message);
+    let kept = wishes::after(wishes, SacApp(app), disable, after.answer.refusal);
+    let answer = record::carry(lent, after);
+    Wished {
+        answer,
+        wishes: kept,
+    }
 }
 
 #[no_mangle]
@@ -108,27 +148,10 @@ fn created_in(lent: &mut [u8], made: Created) -> u8
 }
 
 #[no_mangle]
-pub extern "C" fn tacit_create(
-    lent: &mut [u8],
-    initiating: bool,
-    active: bool,
-    uses_tac: bool,
-    drops: bool,
-    protected_kinds: u32,
-    enabled: u32,
-    first_number: u32,
-) -> u8
-    ensures { λ r. ⌜ CreatedIn (created (roleFlags initiating active «uses_tac» drops) «protected_kinds» enabled «first_number») (now (lent .entry)) r (now (lent .exit)) ⌝ }
+pub extern "C" fn tacit_create(lent: &mut [u8], settings: Settings) -> u8
+    ensures { λ r. ⌜ CreatedIn (created settings) (now (lent .entry)) r (now (lent .exit)) ⌝ }
 {
-    let made = Session::new(
-        initiating,
-        active,
-        uses_tac,
-        drops,
-        protected_kinds,
-        enabled,
-        first_number,
-    );
+    let made = Session::new(settings);
     created_in(lent, made)
 }
 
@@ -158,6 +181,20 @@ pub extern "C" fn tacit_why_not(lent: &[u8], kind: u32) -> Reason
     ensures { λ r. ⌜ r ≡ whyNot (decoded (now (lent .entry))) kind ⌝ }
 {
     record::decoded(lent).why_not(kind)
+}
+
+#[no_mangle]
+pub extern "C" fn tacit_wish_sac(wishes: u32, room: &mut [u8]) -> Written
+    ensures { λ r. ⌜ (r ≡ wishSac wishes (length (now (room .entry)))) × (now (room .exit) ≡ sacRoom wishes (now (room .entry))) ⌝ }
+{
+    wishes::sac(wishes, room)
+}
+
+#[no_mangle]
+pub extern "C" fn tacit_wanted(wishes: u32, kind: u32) -> Want
+    ensures { λ r. ⌜ r ≡ wanted wishes kind ⌝ }
+{
+    wishes::wanted(wishes, kind)
 }
 
 #[no_mangle]

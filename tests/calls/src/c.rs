@@ -37,15 +37,25 @@ fn numbers(table: &Table) -> String {
     let buffer_names = joined(table.buffers(), ", ", |buffer| quoted(&buffer.name));
     let lent = masks(table, |_| true);
     let written = masks(table, |argument| argument.written);
+    let sessions = joined(table.buffers(), ", ", |buffer| {
+        buffer.kind.is_sessions().to_string()
+    });
     let longest = table.longest_answer();
+    let widest = table.widest_argument();
     format!(
         r#"
 enum call {{ {calls}, CALLS }};
 enum buffer {{ {buffers}, BUFFERS }};
-enum {{ SAID = {longest} }}; /* octets of the longest answer, field behind field */
+enum {{
+    SAID = {longest}, /* octets of the longest answer, field behind field */
+    WIDEST = {widest} /* octets of the longest argument that is not lent */
+}};
 
 static const char *const call_names[CALLS] = {{{names}}};
 static const char *const buffer_names[BUFFERS] = {{{buffer_names}}};
+
+/* The buffers that are sessions, as many as there are or the one; the others are octets. */
+static const bool of_sessions[BUFFERS] = {{{sessions}}};
 
 /* The buffers that each call is lent, and those that it may write, a bit for each. */
 static const unsigned lent_to[CALLS] = {{{lent}}};
@@ -63,7 +73,7 @@ fn given(table: &Table) -> String {
     });
     format!(
         r#"
-/* All that a call can be given; each takes its own. A row is the fields of its sessions. */
+/* All that a call can be given; each takes its own. Sessions that are lent are their fields. */
 struct given {{
     uint8_t call;
     bool null; /* lend empty buffers as NULL */
@@ -125,14 +135,13 @@ static inline void take_given(struct given *given, struct source *source)
 
 fn shown(table: &Table) -> String {
     let cases = each(&table.calls, |call| show_call(table, call));
-    let widest = table.widest_argument();
     format!(
         r#"
 /* Hands over all that a call is given, as octets. */
 static inline void show_given(const struct given *given,
                               void (*show)(const char *name, const uint8_t *octets, size_t length))
 {{
-    uint8_t octets[{widest}];
+    uint8_t octets[WIDEST];
     switch ((enum call)given->call) {{
 {cases}    case CALLS:
         break;
@@ -184,7 +193,7 @@ fn type_of(kind: &Type) -> String {
         Type::Number(bits, _) => format!("uint{bits}_t"),
         Type::Size => "size_t".to_string(),
         Type::Struct(name) => format!("struct tacit_{name}"),
-        Type::Array(_) | Type::Octets | Type::Sessions => panic!("calls.txt: no type of its own"),
+        _ => panic!("calls.txt: no type of its own"),
     }
 }
 
@@ -203,13 +212,14 @@ fn put(kind: &Type, to: &str, value: &str) -> String {
         Type::Size => format!("put_number({to}, {value}, 8)"),
         Type::Array(count) => format!("(uint8_t *)memcpy({to}, {value}, {count}) + {count}"),
         Type::Struct(name) => format!("put_{name}({to}, &{value})"),
-        Type::Octets | Type::Sessions => panic!("calls.txt: lent in a struct"),
+        _ => panic!("calls.txt: lent in a struct"),
     }
 }
 
 /// A statement that gets a value of this type from behind `from`.
 fn get(kind: &Type, value: &str) -> String {
     match kind {
+        Type::Bool => format!("{value} = get_number(from, 1) != 0, from += 1;"),
         Type::Number(bits, _) => {
             let (kind, octets) = (type_of(kind), bits / 8);
             format!("{value} = ({kind})get_number(from, {octets}), from += {octets};")
@@ -278,6 +288,7 @@ fn parameter(argument: &Field) -> String {
     match argument.kind {
         Type::Octets => format!("{constant}uint8_t *{name}, size_t {name}_len"),
         Type::Sessions => format!("{constant}struct tacit_session *{name}, size_t {name}_len"),
+        Type::Session => format!("{constant}struct tacit_session *{name}"),
         _ => declared(&argument.kind, name),
     }
 }
@@ -294,9 +305,11 @@ fn passed(call: &Call) -> Vec<String> {
     let names = call
         .arguments
         .iter()
-        .flat_map(|argument| match argument.kind.is_lent() {
-            true => vec![argument.name.clone(), format!("{}_len", argument.name)],
-            false => vec![argument.name.clone()],
+        .flat_map(|argument| match argument.kind {
+            Type::Octets | Type::Sessions => {
+                vec![argument.name.clone(), format!("{}_len", argument.name)]
+            }
+            _ => vec![argument.name.clone()],
         });
     names.collect()
 }
@@ -364,6 +377,7 @@ fn make_call(table: &Table, call: &Call) -> String {
         match argument.kind {
             Type::Octets => format!("at[{upper}], given->lent[{upper}].length"),
             Type::Sessions => format!("at[{upper}], given->lent[{upper}].length / SESSION_OCTETS"),
+            Type::Session => format!("at[{upper}]"),
             _ => format!("given->{}", argument.name),
         }
     });

@@ -111,7 +111,11 @@ fn left(table: &Table) -> String {
     written.retain(|buffer| buffer.written);
     let left = each(&written, declared);
     let as_found = each(&written, |buffer| {
-        format!("            {0}: call.{0}.clone(),\n", buffer.name)
+        let copied = match buffer.kind {
+            Type::Session => "",
+            _ => ".clone()",
+        };
+        format!("            {0}: call.{0}{copied},\n", buffer.name)
     });
     let names = joined(&written, ", ", given_by_name);
     let gets = each(&table.calls, |call| get_left(call, &written));
@@ -197,13 +201,30 @@ impl Said {{
 
 /// An arm for the refusal of an answer that has one.
 fn refusal(table: &Table, answer: &str) -> String {
-    let has_one = |fields: &[Field]| fields.iter().any(|field| field.name == "refusal");
     let refusal = match table.value(answer) {
-        Some(_) if answer == "refusal" => "*value",
-        None if has_one(table.fields(answer)) => "value.refusal",
+        Some(_) if answer == "refusal" => "*value".to_string(),
+        None => match refusal_in(table, answer) {
+            Some(path) => format!("value.{path}"),
+            None => return String::new(),
+        },
         _ => return String::new(),
     };
     format!("            Said::{}(value) => {refusal},\n", camel(answer))
+}
+
+/// Where the refusal stands in a struct, or in a struct in it.
+fn refusal_in(table: &Table, name: &str) -> Option<String> {
+    table
+        .fields(name)
+        .iter()
+        .find_map(|field| match &field.kind {
+            _ if field.name == "refusal" => Some("refusal".to_string()),
+            Type::Struct(inner) => {
+                let path = refusal_in(table, inner)?;
+                Some(format!("{}.{path}", field.name))
+            }
+            _ => None,
+        })
 }
 
 fn given_by_name(field: &Field) -> String {
@@ -230,6 +251,7 @@ fn type_of(kind: &Type) -> String {
         Type::Struct(name) => seconds(name),
         Type::Octets => "Vec<u8>".to_string(),
         Type::Sessions => format!("Vec<{}>", seconds("session")),
+        Type::Session => seconds("session"),
     }
 }
 
@@ -266,8 +288,8 @@ fn second_says(call: &Call) -> String {
     let passed = joined(&call.arguments, ", ", |argument| {
         let name = &argument.name;
         match (&argument.kind, argument.written) {
-            (Type::Octets | Type::Sessions, true) => format!("&mut left.{name}"),
-            (Type::Octets | Type::Sessions, false) => format!("&self.{name}"),
+            (kind, true) if kind.is_lent() => format!("&mut left.{name}"),
+            (kind, false) if kind.is_lent() => format!("&self.{name}"),
             (Type::Size, _) => format!("size(self.{name})"),
             _ => format!("self.{name}"),
         }

@@ -27,7 +27,7 @@ fn type_of(kind: &Type) -> String {
         Type::Number(bits, _) => format!("u{bits}"),
         Type::Size => "usize".to_string(),
         Type::Struct(name) => seconds(name),
-        Type::Array(_) | Type::Octets | Type::Sessions => panic!("calls.txt: no type of its own"),
+        _ => panic!("calls.txt: no type of its own"),
     }
 }
 
@@ -37,15 +37,17 @@ fn parameter(argument: &Field) -> String {
     match argument.kind {
         Type::Octets => format!("{name}: {pointer} u8, {name}_len: usize"),
         Type::Sessions => format!("{name}: {pointer} second::Fields, {name}_len: usize"),
+        Type::Session => format!("{name}: {pointer} second::Fields"),
         _ => format!("{name}: {}", type_of(&argument.kind)),
     }
 }
 
 fn passed(argument: &Field) -> String {
     let name = &argument.name;
-    match (argument.kind.is_lent(), argument.written) {
-        (true, true) => format!("lent_mut({name}, {name}_len)"),
-        (true, false) => format!("lent({name}, {name}_len)"),
+    match (&argument.kind, argument.written) {
+        (Type::Octets | Type::Sessions, true) => format!("lent_mut({name}, {name}_len)"),
+        (Type::Octets | Type::Sessions, false) => format!("lent({name}, {name}_len)"),
+        (Type::Session, _) => format!("&mut *{name}"),
         _ => name.clone(),
     }
 }

@@ -13,6 +13,8 @@ pub enum Type {
     /// Octets or sessions lent with their length.
     Octets,
     Sessions,
+    /// One session, lent.
+    Session,
 }
 
 impl Type {
@@ -36,8 +38,13 @@ impl Type {
         }
     }
 
+    /// Is it lent, as one session or as many?
+    pub fn is_sessions(&self) -> bool {
+        matches!(self, Type::Sessions | Type::Session)
+    }
+
     pub fn is_lent(&self) -> bool {
-        matches!(self, Type::Octets | Type::Sessions)
+        matches!(self, Type::Octets | Type::Sessions | Type::Session)
     }
 }
 
@@ -151,7 +158,9 @@ impl Table {
                 .iter()
                 .map(|field| self.octets(&field.kind))
                 .sum(),
-            Type::Octets | Type::Sessions => panic!("calls.txt: lent in a struct"),
+            Type::Octets | Type::Sessions | Type::Session => {
+                panic!("calls.txt: lent in a struct")
+            }
         }
     }
 
@@ -188,13 +197,14 @@ fn fields(words: &[&str]) -> Vec<Field> {
     each.map(|field| {
         let words: Vec<&str> = field.split(' ').collect();
         let (name, kind, written) = match words[..] {
-            [name, kind] => (name, kind, false),
-            [name, kind, "mut"] => (name, kind, true),
+            [name, kind] => (name, Type::read(kind), false),
+            [name, "session", "mut"] => (name, Type::Session, true),
+            [name, kind, "mut"] => (name, Type::read(kind), true),
             _ => panic!("calls.txt: cannot be read: {field}"),
         };
         Field {
             name: name.to_string(),
-            kind: Type::read(kind),
+            kind,
             written,
         }
     })

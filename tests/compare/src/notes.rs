@@ -2,7 +2,7 @@
 
 use crate::call::{Call, Said, Seen, Which};
 use crate::tally::Place::{self, Outside, Ready, Unsound};
-use crate::widths::APPLICATIONS;
+use crate::widths::{APPLICATIONS, APPS};
 use crate::{records, rows};
 use second::{Answer, Fields};
 
@@ -29,6 +29,22 @@ pub fn of_answer(answer: &Answer, was: &Fields, is: &Fields) -> Vec<&'static str
     ];
     such(&notes)
 }
+
+/// Which wish was changed, and how.
+pub fn of_wish(call: &Call, answer: &Answer) -> Option<&'static str> {
+    let place = (call.app as usize).checked_sub(1)?;
+    let [again, disabled] = OF_WISHES.get(place)?;
+    let note = if call.disable { disabled } else { again };
+    (answer.outcome == 0 && call.takes("wishes")).then_some(note)
+}
+
+/// All that a wish can have to be noted, App by App.
+pub const OF_WISHES: [[&str; 2]; APPS] = [
+    ["App 1 again", "App 1 disabled"],
+    ["App 2 again", "App 2 disabled"],
+    ["App 3 again", "App 3 disabled"],
+    ["App 4 again", "App 4 disabled"],
+];
 
 /// What is so, of what might be.
 fn such(notes: &[(&'static str, bool)]) -> Vec<&'static str> {

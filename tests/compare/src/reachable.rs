@@ -59,6 +59,7 @@ pub fn reachable() -> BTreeSet<Item> {
     add("sound", Unsound, Note("not sound"));
     kinds_and_retry(&mut add, "permitted_kinds", "retry_interval");
     rows_and_limits(&mut add);
+    wishes(&mut add);
     for note in notes::OF_LISTS {
         add("long list", Place::None, Note(note));
     }
@@ -168,6 +169,49 @@ fn events(add: &mut Add, names: [&'static str; 6]) {
     add(closed, Open, Note("kinds lost"));
     for state in [Ready, Held, Gone] {
         add(closed, state, Refusal(7));
+    }
+}
+
+/// What wishes come to, at a session and without one.
+fn wishes(add: &mut Add) {
+    for name in ["wish", "session_wish"] {
+        add(name, Unsound, Refusal(10));
+        for state in STATES {
+            // Not by the session: by the wishes.
+            add(name, state, Refusal(10));
+            add(name, state, Refusal(15));
+            add(name, state, Outcome(1, state));
+            if state != Open {
+                add(name, state, Refusal(7));
+            }
+        }
+        for refusal in [8, 9] {
+            add(name, Open, Refusal(refusal));
+        }
+        add(name, Open, Outcome(0, Open));
+        add(name, Open, Note("message written"));
+        add(name, Open, Note("message number wrapped"));
+        for note in notes::OF_WISHES.concat() {
+            add(name, Open, Note(note));
+        }
+    }
+    for refusal in [8, 10] {
+        add("wish_sac", Place::None, Refusal(refusal));
+    }
+    for note in [
+        "nothing written",
+        "6 octets written",
+        "7 octets written",
+        "8 octets written",
+        "9 octets written",
+    ] {
+        add("wish_sac", Place::None, Note(note));
+    }
+    for refusal in [6, 10] {
+        add("wanted", Place::None, Refusal(refusal));
+    }
+    for note in ["wanted", "not wanted"] {
+        add("wanted", Place::None, Note(note));
     }
 }
 

@@ -1,8 +1,8 @@
 //! Stored records, sound and not.
 
 use crate::numbers::Numbers;
-use crate::widths::{ALL_APPLICATIONS, ALL_KINDS, APPLICATIONS, KINDS};
-use second::Fields;
+use crate::widths::{ALL_APPLICATIONS, ALL_APPS, ALL_KINDS, APPLICATIONS, APPS, KINDS};
+use second::{Fields, Settings};
 
 pub const LENGTH: usize = 22;
 
@@ -73,6 +73,50 @@ pub fn kinds(numbers: &mut Numbers) -> u16 {
         _ => numbers.word(),
     };
     bits as u16 & ALL_KINDS
+}
+
+/// Wishes that can be kept: none, one, all or any.
+pub fn wishes(numbers: &mut Numbers) -> u32 {
+    match numbers.below(5) {
+        0 => 0,
+        1 => 1 << numbers.below(APPS),
+        2 => ALL_APPS,
+        _ => numbers.word() & ALL_APPS,
+    }
+}
+
+/// A set with something beyond its width.
+pub fn beyond(numbers: &mut Numbers, set: u32, width: usize) -> u32 {
+    match numbers.below(4) {
+        0 => set | 1 << width,
+        1 => set | 1 << numbers.between(width, 31),
+        2 => set | numbers.word(),
+        _ => u32::MAX,
+    }
+}
+
+/// What a session is created with, now and then with a set that is none.
+pub fn settings(numbers: &mut Numbers) -> Settings {
+    let mut settings = Settings {
+        initiating: numbers.flag(),
+        active: numbers.flag(),
+        uses_tac: numbers.chance(75),
+        drops: numbers.flag(),
+        protected_kinds: kinds(numbers).into(),
+        enabled: applications(numbers).into(),
+        first_number: word(numbers),
+        wishes: wishes(numbers),
+    };
+    for (set, width) in [
+        (&mut settings.protected_kinds, KINDS),
+        (&mut settings.enabled, APPLICATIONS),
+        (&mut settings.wishes, APPS),
+    ] {
+        if numbers.chance(12) {
+            *set = beyond(numbers, *set, width);
+        }
+    }
+    settings
 }
 
 /// A 32-bit number, often one at the edge.

@@ -15,6 +15,8 @@ const CLOSED: usize = 5;
 /// A row on its way, from fresh sessions.
 pub struct RowWalk {
     row: Vec<Fields>,
+    /// The wishes of each session.
+    wishes: Vec<u32>,
     limits: Limits,
     /// The applications that its sessions have to do with.
     few: u16,
@@ -26,6 +28,7 @@ impl RowWalk {
         let few = rows::few(numbers);
         let length = rows::length(numbers);
         let row: Vec<Fields> = (0..length).map(|_| rows::fresh(numbers, few)).collect();
+        let wishes = (0..length).map(|_| records::wishes(numbers)).collect();
         let mut limits = no_limits();
         // Low enough to be reached, for some or for all.
         let highest = numbers.one_of(&[2, 3, length / 2, length]);
@@ -36,6 +39,7 @@ impl RowWalk {
         }
         RowWalk {
             row,
+            wishes,
             limits,
             few,
             left: numbers.one_of(&[10, 30, 60]) + 3 * length,
@@ -44,15 +48,22 @@ impl RowWalk {
 
     pub fn next(&self, numbers: &mut Numbers) -> Call {
         let session = numbers.one_of(&self.row);
-        match numbers.weighted(&[80, 7, 7, 2, 2, 1, 1]) {
+        match numbers.weighted(&[80, 7, 7, 2, 2, 1, 1, 8]) {
             0 => self.event(numbers),
             1 => set_limit(numbers, &self.row, self.few, self.limits),
             2 => row_count(numbers, self.row.clone(), self.few),
             3 => Call::on_record(Which::Load, records::stored(&session)),
             4 => store(numbers, session, records::LENGTH),
             5 => of_session(Which::SessionKinds, session),
-            _ => of_session(Which::SessionRetry, session),
+            6 => of_session(Which::SessionRetry, session),
+            _ => session_wish(numbers, session, self.wishes[self.place(&session)]),
         }
+    }
+
+    /// The number of a session of the row; of equal ones the first.
+    fn place(&self, session: &Fields) -> usize {
+        let place = self.row.iter().position(|other| other == session);
+        place.expect("a session of this row")
     }
 
     /// An event of one session, mostly one that its state is for.
@@ -95,6 +106,11 @@ impl RowWalk {
     pub fn saw(&mut self, call: &Call, seen: &Seen) {
         if call.row_event().is_some() {
             self.row.clone_from(&seen.left.row);
+        }
+        if call.which == Which::SessionWish {
+            let at = self.place(&call.one);
+            self.row[at] = seen.left.one;
+            self.wishes[at] = scenes::kept(self.wishes[at], seen);
         }
         if let Said::Limited(answer) = &seen.said {
             self.limits = answer.limits;
@@ -164,8 +180,8 @@ fn event(numbers: &mut Numbers, call: Call, which: usize, session: &Fields, few:
         _ => Vec::new(),
     };
     let room = match which {
-        LOCAL_CHANGE => scenes::room(numbers),
-        _ if numbers.chance(30) => scenes::room(numbers),
+        LOCAL_CHANGE => scenes::room(numbers, scenes::MESSAGE),
+        _ if numbers.chance(30) => scenes::room(numbers, scenes::MESSAGE),
         _ => Vec::new(),
     };
     let by_number = Call {
@@ -279,9 +295,18 @@ fn of_session(which: Which, session: Fields) -> Call {
     }
 }
 
+/// A wish of a session that stands where a row would have it.
+fn session_wish(numbers: &mut Numbers, session: Fields, kept: u32) -> Call {
+    let call = Call {
+        one: session,
+        ..Call::new(Which::SessionWish)
+    };
+    scenes::with_wishes(numbers, call, kept)
+}
+
 /// A call that serves rows and is on none: sessions to and from records, limits.
 pub fn beside_a_row(numbers: &mut Numbers) -> Call {
-    match numbers.weighted(&[30, 30, 5, 20, 8, 7]) {
+    match numbers.weighted(&[30, 30, 5, 20, 8, 7, 40]) {
         0 => Call::on_record(Which::Load, records::any(numbers)),
         1 => {
             let length = if numbers.chance(80) {
@@ -299,7 +324,11 @@ pub fn beside_a_row(numbers: &mut Numbers) -> Call {
             set_limit(numbers, &[], few, limits)
         }
         4 => of_session(Which::SessionKinds, any_session(numbers)),
-        _ => of_session(Which::SessionRetry, any_session(numbers)),
+        5 => of_session(Which::SessionRetry, any_session(numbers)),
+        _ => {
+            let (session, wishes) = (any_session(numbers), records::wishes(numbers));
+            session_wish(numbers, session, wishes)
+        }
     }
 }
 

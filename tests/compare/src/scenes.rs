@@ -4,13 +4,14 @@
 use crate::call::{Call, Said, Seen, Which};
 use crate::numbers::Numbers;
 use crate::row_scenes::{self, RowWalk};
-use crate::widths::{APPLICATIONS, KINDS, LAST};
+use crate::widths::{ALL_APPS, APPLICATIONS, APPS, LAST, LAST_APP};
 use crate::{areas, records};
 use second::Fields;
 
-/// A session on its way.
+/// A session on its way, with the wishes that are kept beside it.
 struct Walk {
     record: Vec<u8>,
+    wishes: u32,
     left: usize,
 }
 
@@ -32,7 +33,7 @@ impl Scenes {
     pub fn next(&mut self) -> Call {
         let numbers = &mut self.numbers;
         if let Some(walk) = &self.walk {
-            return step(numbers, walk.record.clone());
+            return step(numbers, walk.record.clone(), walk.wishes);
         }
         if self.row_walk.is_none() && numbers.chance(1) {
             self.row_walk = Some(RowWalk::new(numbers));
@@ -58,7 +59,10 @@ impl Scenes {
     /// Goes on from what was seen.
     pub fn saw(&mut self, call: &Call, seen: &Seen) {
         if let Some(walk) = &mut self.walk {
-            walk.record.clone_from(&seen.left.record);
+            if call.takes("record") {
+                walk.record.clone_from(&seen.left.record);
+            }
+            walk.wishes = kept(walk.wishes, seen);
             walk.left -= 1;
             if walk.left == 0 {
                 self.walk = None;
@@ -71,6 +75,7 @@ impl Scenes {
         } else if call.which == Which::Create && seen.said == Said::Refusal(0) {
             self.walk = Some(Walk {
                 record: seen.left.record.clone(),
+                wishes: call.settings.wishes,
                 left: self.numbers.one_of(&[1, 5, 20, 60, 200]),
             });
         }
@@ -83,34 +88,10 @@ fn creation(numbers: &mut Numbers) -> Call {
     } else {
         records::any_length(numbers)
     };
-    let mut protected_kinds = u32::from(records::kinds(numbers));
-    let mut enabled = u32::from(records::applications(numbers));
-    if numbers.chance(12) {
-        protected_kinds = beyond(numbers, protected_kinds, KINDS);
-    }
-    if numbers.chance(12) {
-        enabled = beyond(numbers, enabled, APPLICATIONS);
-    }
     let record = numbers.octets(length);
     Call {
-        initiating: numbers.flag(),
-        active: numbers.flag(),
-        uses_tac: numbers.chance(75),
-        drops: numbers.flag(),
-        protected_kinds,
-        enabled,
-        first_number: records::word(numbers),
+        settings: records::settings(numbers),
         ..Call::on_record(Which::Create, record)
-    }
-}
-
-/// A set with something beyond its width.
-fn beyond(numbers: &mut Numbers, set: u32, width: usize) -> u32 {
-    match numbers.below(4) {
-        0 => set | 1 << width,
-        1 => set | 1 << numbers.between(width, 31),
-        2 => set | numbers.word(),
-        _ => u32::MAX,
     }
 }
 
@@ -128,19 +109,23 @@ const ON_RECORD: &[(Which, [usize; 5])] = &[
     (Which::RetryInterval, [3, 4, 3, 8, 8]),
     (Which::Sound, [5, 4, 3, 4, 4]),
     (Which::WhyNot, [6, 4, 6, 4, 4]),
+    (Which::Wish, [24, 6, 24, 10, 12]),
+    (Which::WishSac, [6, 4, 2, 2, 2]),
+    (Which::Wanted, [6, 2, 4, 2, 2]),
 ];
 
 /// A call on a record of any sort.
 fn single(numbers: &mut Numbers) -> Call {
     let record = records::any(numbers);
-    on_record(numbers, 0, record, areas::any)
+    let wishes = records::wishes(numbers);
+    on_record(numbers, 0, record, wishes, areas::any)
 }
 
 /// The next step of a walk, mostly one that its state is for.
-fn step(numbers: &mut Numbers, record: Vec<u8>) -> Call {
+fn step(numbers: &mut Numbers, record: Vec<u8>, wishes: u32) -> Call {
     let state = records::fields(&record).state;
     let column = 1 + usize::from(state.min(records::GONE));
-    on_record(numbers, column, record, mostly_good)
+    on_record(numbers, column, record, wishes, mostly_good)
 }
 
 /// A call on a record by this column of the weights, with what else it takes.
@@ -148,6 +133,7 @@ fn on_record(
     numbers: &mut Numbers,
     column: usize,
     record: Vec<u8>,
+    wishes: u32,
     area: fn(&mut Numbers, hint: u16) -> Vec<u8>,
 ) -> Call {
     let weights = ON_RECORD.iter().map(|(_, weights)| weights[column]);
@@ -155,15 +141,20 @@ fn on_record(
     let (which, _) = ON_RECORD[numbers.weighted(&weights)];
     let session = records::fields(&record);
     let hint = records::hint(&session);
-    let mut call = Call::on_record(which, record);
+    let mut call = Call::new(which);
+    if call.takes("record") {
+        call.record = record;
+    }
     if call.takes("area") {
         call.area = area(numbers, hint);
     }
     if call.takes("ta_id") {
         call.ta_id = ta_id_to_change(numbers, hint);
     }
-    if call.takes("room") {
-        call.room = room(numbers);
+    if call.takes("wishes") {
+        call = with_wishes(numbers, call, wishes);
+    } else if call.takes("room") {
+        call.room = room(numbers, MESSAGE);
     }
     if call.takes("on") {
         call.on = on_or_off(numbers, &session, call.ta_id);
@@ -208,19 +199,68 @@ pub fn on_or_off(numbers: &mut Numbers, session: &Fields, ta_id: u32) -> bool {
     }
 }
 
-/// Room for a message, about as much as it needs.
-pub fn room(numbers: &mut Numbers) -> Vec<u8> {
+/// The call with wishes, mostly those that are kept, and with what goes with them.
+pub fn with_wishes(numbers: &mut Numbers, mut call: Call, kept: u32) -> Call {
+    call.wishes = match numbers.weighted(&[85, 5, 10]) {
+        0 => kept,
+        1 => records::wishes(numbers),
+        _ => records::beyond(numbers, kept, APPS),
+    };
+    if call.takes("app") {
+        call.app = app(numbers);
+    }
+    if call.takes("disable") {
+        let changes = numbers.chance(60) && (1..=LAST_APP).contains(&call.app);
+        call.disable = match changes {
+            true => call.wishes >> (call.app - 1) & 1 == 0,
+            false => numbers.flag(),
+        };
+    }
+    if call.takes("room") {
+        let needed = match call.which {
+            Which::WishSac => 5 + (call.wishes & ALL_APPS).count_ones() as usize,
+            _ => WISH,
+        };
+        call.room = room(numbers, needed);
+    }
+    call
+}
+
+/// The wishes to keep after a call.
+pub fn kept(wishes: u32, seen: &Seen) -> u32 {
+    match &seen.said {
+        Said::Wished(wished) if wished.answer.refusal == 0 => wished.wishes,
+        _ => wishes,
+    }
+}
+
+/// A SAC App, now and then a number about them, or one that is none.
+fn app(numbers: &mut Numbers) -> u32 {
+    let known = numbers.between(1, APPS) as u32;
+    match numbers.weighted(&[80, 10, 10]) {
+        0 => known,
+        1 => numbers.between(0, 8) as u32,
+        _ => out_of_range(numbers, known, LAST_APP + 1),
+    }
+}
+
+/// Octets of the messages of a local change and of a wish.
+pub const MESSAGE: usize = 17;
+const WISH: usize = 14;
+
+/// Room for what is written, about as much as it needs.
+pub fn room(numbers: &mut Numbers, needed: usize) -> Vec<u8> {
     let length = match numbers.below(3) {
-        0 => numbers.one_of(&[16, 17, 18]),
-        1 => numbers.between(17, 40),
+        0 => numbers.between(needed - 1, needed + 1),
+        1 => numbers.between(needed, 40),
         _ => numbers.between(0, 40),
     };
     numbers.octets(length)
 }
 
 fn kind(numbers: &mut Numbers) -> u32 {
-    let kind = numbers.below(10) as u32;
-    if numbers.chance(80) {
+    let kind = numbers.below(13) as u32;
+    if numbers.chance(90) {
         kind
     } else {
         out_of_range(numbers, kind, 10)

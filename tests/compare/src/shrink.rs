@@ -146,6 +146,11 @@ fn plainer_sessions(call: &Call, take: &mut dyn FnMut(Call) -> bool) -> bool {
             session,
             ..call.clone()
         })
+    }) || less(&call.one, &mut |one| {
+        take(Call {
+            one,
+            ..call.clone()
+        })
     }) || (0..call.row.len()).any(|at| {
         less(&call.row[at], &mut |session| {
             let mut other = call.clone();

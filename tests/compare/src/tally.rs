@@ -3,7 +3,7 @@
 use crate::call::{Call, Left, Said, Seen, Which};
 use crate::reachable::{reachable, BY_NUMBER, NO_EVENT};
 use crate::{notes, records, rows};
-use second::Fields;
+use second::{Answer, Fields};
 use std::collections::{BTreeMap, BTreeSet};
 use std::fmt;
 
@@ -41,6 +41,9 @@ impl Place {
         }
         if call.takes("session") {
             return Place::of_session(&call.session);
+        }
+        if call.takes("one") {
+            return Place::of_session(&call.one);
         }
         match call.which {
             // What it is given is room for one.
@@ -130,7 +133,20 @@ fn sessions(call: &Call, left: &Left) -> (Fields, Fields) {
         let session = |row: &[Fields]| row.get(call.at as usize).copied().unwrap_or_default();
         return (session(&call.row), session(&left.row));
     }
+    if call.takes("one") {
+        return (call.one, left.one);
+    }
     (records::fields(&call.record), records::fields(&left.record))
+}
+
+/// What an event did, if it was not refused.
+fn event(said: &Said) -> Option<&Answer> {
+    let answer = match said {
+        Said::Answer(answer) => answer,
+        Said::Wished(wished) => &wished.answer,
+        _ => return None,
+    };
+    (answer.refusal == 0).then_some(answer)
 }
 
 impl Tally {
@@ -144,6 +160,15 @@ impl Tally {
             self.met(("long list", Place::None, What::Note(note)));
         }
         let mut met = |what| self.met((name, before, what));
+        if let Some(answer) = event(&seen.said) {
+            let (was, is) = sessions(call, &seen.left);
+            met(What::Outcome(answer.outcome, Place::of_session(&is)));
+            let notes = notes::of_answer(answer, &was, &is);
+            for note in notes.into_iter().chain(notes::of_wish(call, answer)) {
+                met(What::Note(note));
+            }
+            return;
+        }
         match &seen.said {
             Said::Reading(reading) => {
                 met(What::Refusal(reading.refusal));
@@ -155,13 +180,6 @@ impl Tally {
                 }
                 if reading.dynamic > 0 {
                     met(What::Note("Dynamic read"));
-                }
-            }
-            Said::Answer(answer) if answer.refusal == 0 => {
-                let (was, is) = sessions(call, &seen.left);
-                met(What::Outcome(answer.outcome, Place::of_session(&is)));
-                for note in notes::of_answer(answer, &was, &is) {
-                    met(What::Note(note));
                 }
             }
             Said::Permission(answer) if answer.refusal == 0 => {
@@ -194,6 +212,18 @@ impl Tally {
                 63 => "count 63",
                 64 => "count 64",
                 _ => "count over 64",
+            })),
+            Said::Written(answer) if answer.refusal == 0 => met(What::Note(match answer.written {
+                0 => "nothing written",
+                6 => "6 octets written",
+                7 => "7 octets written",
+                8 => "8 octets written",
+                9 => "9 octets written",
+                _ => "some other length written",
+            })),
+            Said::Want(answer) if answer.refusal == 0 => met(What::Note(match answer.wanted {
+                0 => "not wanted",
+                _ => "wanted",
             })),
             Said::Sound(sound) => met(What::Note(if *sound { "sound" } else { "not sound" })),
             Said::Limits(_) => met(What::Note("limits")),

@@ -1,4 +1,4 @@
-//! How many applications and kinds there are, for everything that is made here.
+//! How many applications, kinds and SAC Apps there are, for everything that is made here.
 
 pub const APPLICATIONS: usize = 13;
 /// The highest TA-Id.
@@ -7,3 +7,8 @@ pub const ALL_APPLICATIONS: u16 = (1 << APPLICATIONS) - 1;
 
 pub const KINDS: usize = 10;
 pub const ALL_KINDS: u16 = (1 << KINDS) - 1;
+
+pub const APPS: usize = 4;
+/// The highest SAC App.
+pub const LAST_APP: u32 = APPS as u32;
+pub const ALL_APPS: u32 = (1 << APPS) - 1;

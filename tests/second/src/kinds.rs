@@ -165,8 +165,9 @@ impl Control {
         Control::Fec129,
     ];
 
-    pub fn from_app(app: u8) -> Option<Control> {
-        Control::ALL.get(usize::from(app).checked_sub(1)?).copied()
+    pub fn from_app(app: impl Into<u32>) -> Option<Control> {
+        let index = usize::try_from(app.into()).ok()?.checked_sub(1)?;
+        Control::ALL.get(index).copied()
     }
 
     /// The kind that is closed while this control is disabled.
@@ -214,7 +215,7 @@ mod tests {
     #[test]
     fn four_of_eight_controls_exist() {
         let kinds = [None, Some(0), Some(1), Some(7), Some(8), None, None, None];
-        for (app, kind) in (0..).zip(kinds) {
+        for (app, kind) in (0u32..).zip(kinds) {
             let control = Control::from_app(app);
             assert_eq!(control.map(|control| control.kind() as u8), kind);
         }

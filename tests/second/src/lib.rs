@@ -19,6 +19,7 @@
 //! | `fields.rs`  | a session as a row holds it, loaded and stored         |
 //! | `limits.rs`  | how many sessions may use each application             |
 //! | `row.rs`     | how many sessions do, and the events of one of them    |
+//! | `wishes.rs`  | of which kinds we want no bindings, and telling it     |
 
 #![forbid(unsafe_code)]
 
@@ -32,6 +33,7 @@ mod message;
 mod record;
 mod row;
 mod session;
+mod wishes;
 
 pub use fields::{load, session_kinds, session_retry, store, Fields, Loaded};
 pub use limits::{no_limits, set_limit, Limited, Limits};
@@ -39,11 +41,12 @@ pub use row::{
     row_capability, row_closed, row_count, row_event, row_hello, row_initialization,
     row_local_change, row_mismatch, Count, Event,
 };
+pub use wishes::{session_wish, wanted, wish, wish_sac, Want, Wished, Written};
 
 use events::{Effect, Outcome};
 use kinds::{Kind, KindSet};
-use lists::ApplicationSet;
-use session::{Session, Settings};
+use lists::{ApplicationSet, ControlSet};
+use session::{Session, Settled};
 
 /// Octets in a stored record.
 pub const RECORD_LENGTH: usize = record::LENGTH;
@@ -53,6 +56,23 @@ pub const MESSAGE_LENGTH: usize = message::LENGTH;
 
 /// Most octets that a parameter area may have.
 pub const LARGEST_AREA: usize = area::LARGEST;
+
+/// What a session is created with.
+#[derive(Clone, Copy, Debug, Default, PartialEq, Eq)]
+#[repr(C)]
+pub struct Settings {
+    pub initiating: bool,
+    pub active: bool,
+    pub uses_tac: bool,
+    pub drops: bool,
+    /// Kind k at bit k.
+    pub protected_kinds: u32,
+    /// TA-Id n at bit n-1.
+    pub enabled: u32,
+    pub first_number: u32,
+    /// App n at bit n-1.
+    pub wishes: u32,
+}
 
 /// Where a value lies in the area that was read. Absent means 0, 0.
 #[derive(Clone, Copy, Debug, Default, PartialEq, Eq)]
@@ -130,6 +150,7 @@ pub(crate) enum Refusal {
     NotSound = 10,
     OutsideRow = 11,
     LimitTooHigh = 12,
+    NoControl = 15,
 }
 
 impl Refusal {
@@ -161,37 +182,27 @@ pub fn read(area: &[u8]) -> Reading {
     }
 }
 
-/// Stores a fresh session in `record`; answers the refusal number, 0 for none.
-///
-/// `protected_kinds` has kind k at bit k, `enabled` has TA-Id n at bit n-1.
-#[allow(clippy::too_many_arguments)]
-pub fn create(
-    record: &mut [u8],
-    initiating: bool,
-    active: bool,
-    uses_tac: bool,
-    drops: bool,
-    protected_kinds: u32,
-    enabled: u32,
-    first_number: u32,
-) -> u8 {
+/// Stores a fresh session in `record`; answers the refusal number, 0 for none. The
+/// wishes have no place there.
+pub fn create(record: &mut [u8], settings: Settings) -> u8 {
     let Ok(record) = <&mut [u8; RECORD_LENGTH]>::try_from(record) else {
         return Refusal::NotSound.number();
     };
-    let (Some(protected), Some(enabled)) = (
-        KindSet::from_bits(protected_kinds),
-        ApplicationSet::from_bits(enabled),
+    let (Some(protected), Some(enabled), Some(_)) = (
+        KindSet::from_bits(settings.protected_kinds),
+        ApplicationSet::from_bits(settings.enabled),
+        ControlSet::from_bits(settings.wishes),
     ) else {
         return Refusal::OutOfRange.number();
     };
-    let settings = Settings {
-        initiating,
-        active,
-        uses_tac,
-        drops,
+    let settled = Settled {
+        initiating: settings.initiating,
+        active: settings.active,
+        uses_tac: settings.uses_tac,
+        drops: settings.drops,
         protected,
     };
-    *record = record::encode(&Session::new(settings, enabled, first_number));
+    *record = record::encode(&Session::new(settled, enabled, settings.first_number));
     0
 }
 

@@ -81,11 +81,11 @@ impl ApplicationSet {
 pub(crate) struct ControlSet(u8);
 
 impl ControlSet {
-    const KNOWN: u8 = (1 << Control::ALL.len()) - 1;
+    const KNOWN: u32 = (1 << Control::ALL.len()) - 1;
 
     /// None if a bit stands for no control.
-    pub fn from_bits(bits: u8) -> Option<ControlSet> {
-        (bits & !ControlSet::KNOWN == 0).then_some(ControlSet(bits))
+    pub fn from_bits(bits: u32) -> Option<ControlSet> {
+        (bits & !ControlSet::KNOWN == 0).then_some(ControlSet(bits as u8))
     }
 
     pub fn bits(self) -> u8 {
@@ -115,32 +115,41 @@ impl ControlSet {
         self.0 == 0
     }
 
+    pub fn contains(self, control: Control) -> bool {
+        self.0 & ControlSet::bit(control) != 0
+    }
+
+    /// Its controls, from the first App on.
+    pub fn controls(self) -> impl Iterator<Item = Control> {
+        let all = Control::ALL.into_iter();
+        all.filter(move |&control| self.contains(control))
+    }
+
     /// Puts the control in or takes it out.
     pub fn set(&mut self, control: Control, within: bool) {
-        let bit = 1 << (control as u8 - 1);
         if within {
-            self.0 |= bit;
+            self.0 |= ControlSet::bit(control);
         } else {
-            self.0 &= !bit;
+            self.0 &= !ControlSet::bit(control);
         }
     }
 
     /// Is this kind one that some control of the set closes?
     pub fn disables(self, kind: Kind) -> bool {
-        Control::ALL
-            .into_iter()
-            .any(|control| control.kind() == kind && self.0 & (1 << (control as u8 - 1)) != 0)
+        self.controls().any(|control| control.kind() == kind)
     }
 
     /// Every kind that some control of the set closes.
     pub fn closes(self) -> KindSet {
         let mut kinds = KindSet::NONE;
-        for control in Control::ALL {
-            if self.0 & (1 << (control as u8 - 1)) != 0 {
-                kinds = kinds.with(KindSet::of([control.kind()]));
-            }
+        for control in self.controls() {
+            kinds = kinds.with(KindSet::of([control.kind()]));
         }
         kinds
+    }
+
+    fn bit(control: Control) -> u8 {
+        1 << (control as u8 - 1)
     }
 }
 
@@ -218,7 +227,7 @@ mod tests {
             assert_eq!(ApplicationSet::from_bits(1 << bit), None);
         }
         assert_eq!(ControlSet::from_bits(0x0F), Some(ControlSet(0x0F)));
-        for bit in 4..8 {
+        for bit in 4..32 {
             assert_eq!(ControlSet::from_bits(1 << bit), None);
         }
     }

@@ -16,7 +16,7 @@
 
 use crate::kinds::KindSet;
 use crate::lists::{ApplicationSet, ControlSet};
-use crate::session::{Peer, Session, Settings, State};
+use crate::session::{Peer, Session, Settled, State};
 use crate::Refusal;
 
 pub(crate) const LENGTH: usize = 22;
@@ -66,7 +66,7 @@ fn decoded(record: &[u8]) -> Option<Session> {
         3 => State::Gone,
         _ => return None,
     };
-    let settings = Settings {
+    let settings = Settled {
         initiating: flag(INITIATING),
         active: flag(ACTIVE),
         uses_tac: flag(USES_TAC),
@@ -87,7 +87,7 @@ fn decoded(record: &[u8]) -> Option<Session> {
         state,
         peer: Peer {
             listed: flag(IN_FORCE).then_some(listed),
-            disabled: ControlSet::from_bits(octets[12])?,
+            disabled: ControlSet::from_bits(octets[12].into())?,
             dynamic: flag(DYNAMIC),
         },
         hello: flag(HELLO).then_some(number(14)),

@@ -9,6 +9,7 @@ use crate::limits::Limits;
 use crate::lists::ApplicationSet;
 use crate::session::Session;
 use crate::{undergo, Answer, Refusal};
+use std::slice;
 
 const LONGEST: usize = 64;
 
@@ -165,4 +166,12 @@ fn happen_in(
         }
         Err(refusal) => refusal.answer(),
     }
+}
+
+/// The same for a session that is the whole row.
+pub(crate) fn happen_to(
+    session: &mut Fields,
+    event: impl FnOnce(&mut Session) -> Result<Effect, Refusal>,
+) -> Answer {
+    happen_in(slice::from_mut(session), 0, |session, _| event(session))
 }

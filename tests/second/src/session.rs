@@ -30,7 +30,7 @@ pub(crate) enum Why {
 
 /// What is settled once and for all at creation.
 #[derive(Clone, Copy, Debug, PartialEq, Eq)]
-pub(crate) struct Settings {
+pub(crate) struct Settled {
     pub initiating: bool,
     pub active: bool,
     pub uses_tac: bool,
@@ -49,7 +49,7 @@ pub(crate) struct Peer {
 
 #[derive(Clone, Copy, Debug, PartialEq, Eq)]
 pub(crate) struct Session {
-    pub settings: Settings,
+    pub settings: Settled,
     pub enabled: ApplicationSet,
     pub state: State,
     pub peer: Peer,
@@ -58,7 +58,7 @@ pub(crate) struct Session {
 }
 
 impl Session {
-    pub fn new(settings: Settings, enabled: ApplicationSet, next_number: u32) -> Session {
+    pub fn new(settings: Settled, enabled: ApplicationSet, next_number: u32) -> Session {
         Session {
             settings,
             enabled,

@@ -1,7 +1,7 @@
 //! Prints what the calls on standard input come to, a line for each. The head
 //! of make_cases.rs says how calls and lines are written.
 
-use second::{Answer, Fields, Limits, Part, RECORD_LENGTH};
+use second::{Answer, Fields, Limits, Part, Settings, RECORD_LENGTH};
 use std::io::{self, Read, Write};
 
 /// Octets of input that are read.
@@ -46,6 +46,21 @@ impl<'a> Input<'a> {
             protects: self.pair()?,
             hello: self.number()?,
             next: self.number()?,
+        })
+    }
+
+    fn settings(&mut self) -> Option<Settings> {
+        let roles = self.octet()?;
+        let role = |bit: u8| roles >> bit & 1 == 1;
+        Some(Settings {
+            initiating: role(0),
+            active: role(1),
+            uses_tac: role(2),
+            drops: role(3),
+            protected_kinds: self.number()?,
+            enabled: self.number()?,
+            first_number: self.number()?,
+            wishes: self.number()?,
         })
     }
 
@@ -110,19 +125,7 @@ fn call(input: &mut Input, record: &mut [u8; RECORD_LENGTH]) -> Option<Line> {
     line.number(which);
     match which {
         1 => {
-            let roles = input.octet()?;
-            let role = |bit: u8| roles >> bit & 1 == 1;
-            let (protected, enabled, first) = (input.number()?, input.number()?, input.number()?);
-            line.number(second::create(
-                record,
-                role(0),
-                role(1),
-                role(2),
-                role(3),
-                protected,
-                enabled,
-                first,
-            ));
+            line.number(second::create(record, input.settings()?));
             line.octets(record);
         }
         2 => {
@@ -195,6 +198,27 @@ fn call(input: &mut Input, record: &mut [u8; RECORD_LENGTH]) -> Option<Line> {
             line.number(second::store(session, &mut room));
             line.octets(&room);
         }
+        18 => {
+            let (wishes, app) = (input.number()?, input.number()?);
+            let (disable, mut room) = (input.octet()? != 0, input.room()?);
+            let wished = second::wish(record, wishes, app, disable, &mut room);
+            line.answer(wished.answer);
+            line.number(wished.wishes);
+            line.octets(record);
+            line.octets(&room);
+        }
+        19 => {
+            let (wishes, mut room) = (input.number()?, input.room()?);
+            let sac = second::wish_sac(wishes, &mut room);
+            line.number(sac.refusal);
+            line.number(sac.written);
+            line.octets(&room);
+        }
+        20 => {
+            let want = second::wanted(input.number()?, input.number()?);
+            line.number(want.refusal);
+            line.number(want.wanted);
+        }
         _ => return None,
     }
     Some(line)
@@ -234,7 +258,11 @@ mod tests {
     fn a_call_cut_short_ends_the_run() {
         assert_eq!(lines(&[11, 6, 1, 0, 0]), "b 0\n");
         assert_eq!(lines(&[12, 1, 0]), "");
+        assert_eq!(lines(&[[1].as_slice(), &[0; 16]].concat()), "");
         assert_eq!(lines(&[[17].as_slice(), &[0; 17]].concat()), "");
+        assert_eq!(lines(&[[18].as_slice(), &[0; 9]].concat()), "");
+        assert_eq!(lines(&[19, 0, 0, 0, 0]), "");
+        assert_eq!(lines(&[[20].as_slice(), &[0; 7]].concat()), "");
         assert_eq!(lines(&[11, 0, 11]), "b 0\n");
     }
 }

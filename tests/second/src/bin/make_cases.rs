@@ -14,7 +14,7 @@
 //! |  n | call            | arguments                                          |
 //! |----|-----------------|----------------------------------------------------|
 //! |  1 | create          | roles (1), protected kinds (4), enabled (4), first |
-//! |    |                 | message number (4)                                 |
+//! |    |                 | message number (4), wishes (4)                     |
 //! |  2 | initialization  | length of the area (2), the area                   |
 //! |  3 | capability      | length of the area (2), the area                   |
 //! |  4 | local change    | TA-Id (4), on or 0 (1), length of the room (1)     |
@@ -31,15 +31,20 @@
 //! | 15 | set a limit     | limits (13), TA-Id (4), limit (4)                  |
 //! | 16 | load            |                                                    |
 //! | 17 | store           | a session, length of the room (1)                  |
+//! | 18 | wish            | wishes (4), App (4), disable or 0 (1), length of   |
+//! |    |                 | the room (1)                                       |
+//! | 19 | SAC of wishes   | wishes (4), length of the room (1)                 |
+//! | 20 | wanted          | wishes (4), kind (4)                               |
 //!
 //! Roles from bit 0: initiating, active, uses TAC, drops; the other bits are not
 //! read. Limits are an octet for each application, from TA-Id 1 on. A session is
 //! its fields: state (1), flags (1), disabled (1), enabled (2), listed (2),
 //! protected kinds (2), Hello number (4), next message number (4). A room has as
 //! many octets as asked for, but never more than 40, and each is 0xEE before the
-//! call. `load` reads the record, and `store` leaves it alone. The run ends at the end of the input, at a call whose
-//! arguments are cut short, and at any other number. What lies beyond 32,768
-//! octets is not read.
+//! call. `load` reads the record, and `store` leaves it alone. The wishes of a call
+//! are those that it is given: none are kept from one call to the next. The run
+//! ends at the end of the input, at a call whose arguments are cut short, and at
+//! any other number. What lies beyond 32,768 octets is not read.
 //!
 //! # The lines
 //!
@@ -62,6 +67,9 @@
 //! |  15 | refusal, limits                                                    |
 //! |  16 | refusal, the eight fields of the session                           |
 //! |  17 | refusal, room                                                      |
+//! |  18 | refusal, outcome, lost, gained, written, wishes, record, room      |
+//! |  19 | refusal, written, room                                             |
+//! |  20 | refusal, wanted                                                    |
 
 use std::io::{self, Write};
 
@@ -73,11 +81,15 @@ const DROPS: u8 = 8;
 /// Roles with which a mismatch leads to Held.
 const HOLDS: u8 = INITIATING | ACTIVE | USES_TAC;
 
-/// Just enough room.
+/// Just enough room, for a local change and for a wish.
 const ROOM: u8 = 17;
+const WISH_ROOM: u8 = 14;
 
 /// TAC with 4 and 7, a dynamic peer.
 const BOTH_DYNAMIC: &str = "850F0009 80 00048000 00078000 85060001 80";
+
+/// Octets that are read.
+const MOST: usize = 32_768;
 
 /// Octets from hexadecimal; blanks do not matter.
 fn hex(text: &str) -> Vec<u8> {
@@ -117,10 +129,15 @@ impl Calls {
     }
 
     fn create(&mut self, roles: u8, protected: u32, enabled: u32, first: u32) {
+        self.create_wishing(roles, protected, enabled, first, 0);
+    }
+
+    fn create_wishing(&mut self, roles: u8, protected: u32, enabled: u32, first: u32, wishes: u32) {
         self.octets(&[1, roles]);
         self.number(protected);
         self.number(enabled);
         self.number(first);
+        self.number(wishes);
     }
 
     fn initialization(&mut self, area: &str) {
@@ -202,6 +219,25 @@ impl Calls {
         self.octets(&[17]);
         self.octets(&session);
         self.octets(&[room]);
+    }
+
+    fn wish(&mut self, wishes: u32, app: u32, disable: bool, room: u8) {
+        self.octets(&[18]);
+        self.number(wishes);
+        self.number(app);
+        self.octets(&[disable.into(), room]);
+    }
+
+    fn wish_sac(&mut self, wishes: u32, room: u8) {
+        self.octets(&[19]);
+        self.number(wishes);
+        self.octets(&[room]);
+    }
+
+    fn wanted(&mut self, wishes: u32, kind: u32) {
+        self.octets(&[20]);
+        self.number(wishes);
+        self.number(kind);
     }
 
     /// A fresh session with these applications enabled.
@@ -552,6 +588,134 @@ fn by_fields(calls: &mut Calls) {
     }
 }
 
+/// Wishes given at creation: the record is the same with any that are sound.
+fn wishes_at_creation(calls: &mut Calls) {
+    for wishes in [0, 1, 8, 15, 16, 0x100, 0x1_0000, 0x8000_0000, 0xFFFF_FFFF] {
+        calls.create_wishing(HOLDS, 0x3FF, applications(&[4, 7]), 5, wishes);
+    }
+}
+
+/// Every App disabled and taken again, one behind the other and with all others
+/// wished; the message number wraps on the way. `tac` is in the area or not.
+fn wishes_changed(calls: &mut Calls, roles: u8, tac: &str) {
+    calls.create(roles, 0, applications(&[4, 7]), 0xFFFF_FFFC);
+    calls.initialization(&format!("{tac} 85060001 80 850D0003 80 90 B0"));
+    for app in 1..=4 {
+        let own = 1 << (app - 1);
+        calls.wish(0, app, true, WISH_ROOM);
+        calls.wish(own, app, false, WISH_ROOM);
+        calls.wish(15 - own, app, true, 40);
+        calls.wish(15, app, false, 40);
+        // so already
+        calls.wish(own, app, true, WISH_ROOM);
+        calls.wish(15 - own, app, false, WISH_ROOM);
+    }
+    calls.permitted_kinds();
+}
+
+/// What is written, given to a session at the other end: by its Capability event,
+/// then by its Initialization.
+fn wishes_read(calls: &mut Calls) {
+    calls.enabling(&[4, 7]);
+    calls.initialization(BOTH_DYNAMIC);
+    for app in [1, 2, 3, 4] {
+        calls.capability(&format!("850D0002 80 {:02X}", 0x80 | app << 4));
+    }
+    for app in [3, 1, 4, 2] {
+        calls.capability(&format!("850D0002 80 {:02X}", app << 4));
+    }
+    for wishes in 1..16u32 {
+        let apps: Vec<u32> = (1..=4).filter(|app| wishes >> (app - 1) & 1 == 1).collect();
+        let elements: String = apps
+            .iter()
+            .map(|app| format!("{:02X}", 0x80 | app << 4))
+            .collect();
+        calls.enabling(&[]);
+        calls.initialization(&format!("850D{:04X} 80 {elements}", 1 + apps.len()));
+        calls.permitted_kinds();
+    }
+}
+
+/// What a wish is refused for, and in which order.
+fn wishes_refused(calls: &mut Calls) {
+    // 10 by the record, before 15 and Unchanged
+    calls.record("1400 0100 01 87 4800 0000 0000 00 00 00000000 01000000");
+    calls.wish(0, 1, true, WISH_ROOM);
+    calls.wish(0, 1, false, WISH_ROOM);
+    calls.wish(0, 5, true, 0);
+    // 10 by the wishes, all 32 bits back; then 15, then Unchanged, then 7: in Ready
+    calls.enabling(&[4]);
+    for wishes in [0x10, 0x11, 0x80, 0x100, 0x1_0001, 0x8000_000F, 0xFFFF_FFFF] {
+        calls.wish(wishes, 1, true, WISH_ROOM);
+        calls.wish(wishes, 9, true, 0);
+    }
+    for app in [0, 5, 6, 7, 8, 0x101, 0x1_0001, 0x8000_0001, 0xFFFF_FFFF] {
+        calls.wish(15, app, true, WISH_ROOM);
+        calls.wish(0, app, false, 0);
+    }
+    calls.wish(4, 3, true, 0);
+    calls.wish(11, 3, false, 0);
+    calls.wish(4, 3, false, WISH_ROOM);
+    calls.wish(11, 3, true, 0);
+    // 7 in Held and Gone
+    for record in [
+        "1400 0100 02 4E 4800 0000 0000 00 00 FFFFFFFF 01000000",
+        "1400 0100 03 0B 4800 0000 0000 00 00 00000000 01000000",
+    ] {
+        calls.record(record);
+        calls.wish(2, 2, true, 0);
+        calls.wish(2, 2, false, WISH_ROOM);
+        calls.wish(2, 7, false, WISH_ROOM);
+    }
+    // 9, with TAC used and not, before 8
+    for roles in [HOLDS, INITIATING | ACTIVE] {
+        calls.create(roles, 0, applications(&[4]), 1);
+        calls.initialization("");
+        calls.wish(8, 4, true, 0);
+        calls.wish(8, 4, false, WISH_ROOM);
+        calls.wish(8, 4, false, 0);
+    }
+    // 8 under 14 octets
+    calls.enabling(&[4]);
+    calls.initialization("85060001 80");
+    for room in [0, 1, 13, WISH_ROOM, 15] {
+        calls.wish(0, 4, true, room);
+        calls.wish(15, 1, false, room);
+    }
+}
+
+/// The SAC of all sets, with just enough room, with more and with too little.
+fn wishes_in_initialization(calls: &mut Calls) {
+    for wishes in 0..16u32 {
+        let octets = 5 + wishes.count_ones() as u8;
+        calls.wish_sac(wishes, octets);
+        calls.wish_sac(wishes, octets - 1);
+        calls.wish_sac(wishes, 40);
+    }
+    calls.wish_sac(0, 0);
+    // 10, before 8
+    for wishes in [0x10, 0x1F, 0x100, 0x1_0000, 0x8000_0001, 0xFFFF_FFFF] {
+        calls.wish_sac(wishes, 9);
+        calls.wish_sac(wishes, 0);
+    }
+}
+
+fn bindings_wanted(calls: &mut Calls) {
+    for kind in 0..=10 {
+        for wishes in [0, 1, 2, 4, 8, 15] {
+            calls.wanted(wishes, kind);
+        }
+    }
+    for kind in [16, 0x100, 0x1_0000, 0x8000_0000, 0xFFFF_FFFF] {
+        calls.wanted(0, kind);
+    }
+    // 10, before 6
+    for wishes in [0x10, 0x1_0000, 0x8000_000F, 0xFFFF_FFFF] {
+        calls.wanted(wishes, 2);
+        calls.wanted(wishes, 10);
+    }
+}
+
 fn all() -> Vec<u8> {
     let mut calls = Calls(Vec::new());
     examples(&mut calls);
@@ -566,6 +730,14 @@ fn all() -> Vec<u8> {
     records(&mut calls);
     limits(&mut calls);
     by_fields(&mut calls);
+    wishes_at_creation(&mut calls);
+    wishes_changed(&mut calls, HOLDS, "850F0005 80 00048000");
+    wishes_changed(&mut calls, 0, "");
+    wishes_read(&mut calls);
+    wishes_refused(&mut calls);
+    wishes_in_initialization(&mut calls);
+    bindings_wanted(&mut calls);
+    assert!(calls.0.len() <= MOST, "{} octets", calls.0.len());
     calls.0
 }
 

@@ -11,6 +11,7 @@ mod states;
 mod stored;
 mod why;
 mod widening;
+mod wishes;
 
 use second::*;
 
@@ -83,18 +84,23 @@ impl Made {
     }
 
     pub fn make(self) -> Box22 {
+        self.wishing(0)
+    }
+
+    /// The same with wishes, which leave no trace in the record.
+    pub fn wishing(self, wishes: u32) -> Box22 {
         let mut record = [0xA5; RECORD_LENGTH];
-        let refusal = create(
-            &mut record,
-            self.initiating,
-            self.active,
-            self.uses_tac,
-            self.drops,
-            self.protected,
-            self.enabled,
-            self.number,
-        );
-        assert_eq!(refusal, 0);
+        let settings = Settings {
+            initiating: self.initiating,
+            active: self.active,
+            uses_tac: self.uses_tac,
+            drops: self.drops,
+            protected_kinds: self.protected,
+            enabled: self.enabled,
+            first_number: self.number,
+            wishes,
+        };
+        assert_eq!(create(&mut record, settings), 0);
         Box22(record)
     }
 }

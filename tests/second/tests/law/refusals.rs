@@ -183,11 +183,19 @@ fn six_out_of_range() {
     for bit in 0..32 {
         let set = 1 << bit;
         let mut record = [7; 22];
-        let by_kinds = create(&mut record, true, true, true, true, set, 0, 9);
-        assert_eq!(by_kinds, if bit < 10 { 0 } else { 6 });
+        let by_kinds = Settings {
+            protected_kinds: set,
+            ..Settings::default()
+        };
+        let refusal = create(&mut record, by_kinds);
+        assert_eq!(refusal, if bit < 10 { 0 } else { 6 });
         let mut record = [7; 22];
-        let by_applications = create(&mut record, true, true, true, true, 0, set, 9);
-        assert_eq!(by_applications, if bit < 13 { 0 } else { 6 });
+        let by_applications = Settings {
+            enabled: set,
+            ..Settings::default()
+        };
+        let refusal = create(&mut record, by_applications);
+        assert_eq!(refusal, if bit < 13 { 0 } else { 6 });
         assert_eq!(record == [7; 22], bit >= 13);
     }
 }
@@ -196,8 +204,13 @@ fn six_out_of_range() {
 fn six_after_ten() {
     for length in (0..64).filter(|&length| length != 22) {
         let mut room = vec![0x77; length];
-        let refusal = create(&mut room, true, true, true, true, u32::MAX, u32::MAX, 0);
-        assert_eq!(refusal, 10);
+        let settings = Settings {
+            protected_kinds: u32::MAX,
+            enabled: u32::MAX,
+            wishes: u32::MAX,
+            ..Settings::default()
+        };
+        assert_eq!(create(&mut room, settings), 10);
         assert_eq!(room, vec![0x77; length]);
     }
 }

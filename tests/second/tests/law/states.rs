@@ -6,7 +6,7 @@ const DYNAMIC: &str = "85060001 80";
 const LISTS_4: &str = "850F0005 80 00048000";
 const LISTS_NONE: &str = "850F0001 80";
 
-fn roles() -> impl Iterator<Item = Made> {
+pub fn roles() -> impl Iterator<Item = Made> {
     (0..16).map(|bits| Made {
         initiating: bits & 1 != 0,
         active: bits & 2 != 0,
@@ -37,7 +37,7 @@ fn opened(made: Made) -> Box22 {
 }
 
 /// A session of this role in each state that the role can have.
-fn in_every_state(made: Made) -> Vec<Box22> {
+pub fn in_every_state(made: Made) -> Vec<Box22> {
     let mut sessions = vec![made.make(), opened(made)];
     let mut told = opened(made);
     mismatch(&mut told.0);

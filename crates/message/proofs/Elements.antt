@@ -1,0 +1,60 @@
+-- The elements of the SAC for an Initialization, one place of the wishes after another: at the most one for each, and behind those before it. And the
+-- SAC in its parts. Assumes nothing.
+use Prim.Native.Nat.{ℕ, zero, suc, _+_, _≤_}
+use mathlib.Core.Path.{_≡_, ap, ap₂, _∙_}
+use mathlib.Core.Bool.{true, false}
+use mathlib.Core.List.{List, [], _∷_, _++_, append-nil}
+use native.Mathlib.Omega.{arith}
+use native.Mathlib.Numerals.{add-one}
+use lib.Dec.{lit≤}
+use lib.ListN.{length, take, length-append}
+use lib.Seq.{take-append-seam}
+use Rattle.choice.proofs.Branch.{by-test, taken, left}
+use Rattle.sets.specs.Set.{empty}
+use Rattle.octets.specs.Octets.{topBit, over}
+use Rattle.octets.proofs.Front.{over-fits}
+use Rattle.kinds.specs.Kinds.{appCount}
+use Rattle.area.specs.Area.{uBit, sacType}
+use Rattle.area.specs.Tlvs.{Tlv, tlvHead, areaOf}
+use Rattle.message.specs.Sac.{wishElement, wishElements, wishTlv, sacFor, sacOctets}
+
+pub element-most : (wishes i : ℕ) → length (wishElement wishes i) ≤ 1
+element-most wishes i = by-test (λ (l : List ℕ). length l ≤ 1) (λ _. lit≤ tt) (λ _. lit≤ tt)
+
+pub elements-most : (wishes n : ℕ) → length (wishElements wishes n) ≤ n
+unfolding wishElements
+elements-most wishes zero = omega arith
+elements-most wishes (suc n) =
+    omega (arith, length-append (wishElements wishes n) (wishElement wishes n), elements-most wishes n, element-most wishes n)
+
+-- one place more
+pub elements-more : (wishes n : ℕ) → wishElements wishes (n + 1) ≡ wishElements wishes n ++ wishElement wishes n
+unfolding wishElements
+elements-more wishes n = ap (wishElements wishes) (add-one n)
+
+-- what was put over the front, read back from there
+pub front : (e room : List ℕ) → length e ≤ length room → take (length e) (over e room) ≡ e
+front e room fits = ap (take (length e)) (over-fits e room fits) ∙ take-append-seam e _
+
+-- so all of them, from a room that was empty
+pub elements-back : (wishes n : ℕ) (l : List ℕ) → n ≡ length (wishElements wishes appCount) → l ≡ over (wishElements wishes appCount) (0 ∷ 0 ∷ 0 ∷ 0 ∷ [])
+    → take n l ≡ wishElements wishes appCount
+elements-back wishes n l e p = ap₂ take e p ∙ front (wishElements wishes appCount) (0 ∷ 0 ∷ 0 ∷ 0 ∷ []) (elements-most wishes appCount)
+
+-- ---- the SAC
+pub sac-none : (wishes : ℕ) → empty wishes ≡ true → sacOctets wishes ≡ []
+unfolding sacFor
+sac-none wishes none = ap areaOf (taken [] (wishTlv wishes ∷ []) none)
+
+-- its head, S, and the elements
+abbrev pub sacParts : List ℕ → List ℕ
+sacParts elements = (tlvHead (uBit + sacType) (1 + length elements) ++ (topBit true ∷ [])) ++ elements
+
+pub sac-parts : (wishes : ℕ) → empty wishes ≡ false → sacOctets wishes ≡ sacParts (wishElements wishes appCount)
+unfolding sacFor
+sac-parts wishes some =
+    let e = wishElements wishes appCount in
+    let counted : suc (length e) ≡ 1 + length e = omega arith in
+    ap areaOf (left [] (wishTlv wishes ∷ []) some)
+    ∙ ap (λ (l : List ℕ). tlvHead (uBit + sacType) (suc (length e)) ++ (topBit true ∷ l)) (append-nil e)
+    ∙ ap (λ (n : ℕ). (tlvHead (uBit + sacType) n ++ (topBit true ∷ [])) ++ e) counted
