@@ -2,3 +2,4 @@ pub mod Turn
 pub mod Parts
 pub mod Tlvs
 pub mod Examples
+pub mod Slots

@@ -9,7 +9,7 @@ use Rattle.refusals.specs.Refusals.{notRefused}
 use Rattle.octets.specs.Octets.{be16}
 use Rattle.area.specs.declared.Reading.{Reading}
 use Rattle.area.specs.Found.{nothingFound}
-use Rattle.area.specs.Area.{areaMost, headLength, byType, readArea}
+use Rattle.area.specs.Area.{areaMost, headLength, typeOf, byType, readArea}
 
 -- a TLV: its first 16 bits, and its value
 pub record Tlv : Type 0 where
@@ -42,6 +42,11 @@ readTlvs at r (t ∷ ts) =
 abbrev pub Wide : List Tlv → Type 0
 Wide [] = Unit {0}
 Wide (t ∷ ts) = (t .head < 65536) × (length (t .value) < 65536) × Wide ts
+
+-- none of them is of this type
+abbrev pub Without : ℕ → List Tlv → Type 0
+Without type [] = Unit {0}
+Without type (t ∷ ts) = (typeOf (t .head) ≡ type → ⊥) × Without type ts
 
 abbrev pub ReadByTlvs : Type 0
 ReadByTlvs = (ts : List Tlv) → Wide ts → length (areaOf ts) ≤ areaMost → readArea (areaOf ts) ≡ readTlvs 0 nothingFound ts

@@ -37,21 +37,10 @@ pub(crate) fn area_of(call: &[u8]) -> &[u8] {
     area::part_of(call, Span { start: 3, len })
 }
 
-// How long a room is: as asked at a place, up to 40 octets.
-pub(crate) fn room_length(call: &[u8], at: usize) -> usize
-    ensures { λ r. ⌜ r ≤ 40 ⌝ }
-{
-    let n = octet(call, at) as usize;
-    if 40 < n {
-        return 40;
-    }
-    n
-}
-
 // How many octets each call has, by its number; one with an area has as many more as its second and third say.
-const LENGTHS: [usize; 18] = [
+const LENGTHS: [usize; 21] = [
     0,
-    14, // create
+    18, // create
     WITH_AREA, // initialization
     WITH_AREA, // capability
     7, // local change
@@ -68,6 +57,9 @@ const LENGTHS: [usize; 18] = [
     22, // set a limit
     1, // load
     19, // store
+    11, // wish
+    6, // the SAC for an Initialization
+    9, // wanted
 ];
 
 const WITH_AREA: usize = 3;
@@ -94,4 +86,19 @@ pub(crate) fn size(call: &[u8]) -> usize
         return 0;
     }
     n
+}
+
+// How long the room of a call is: as its last octet asks, up to 40 octets.
+pub(crate) fn room_length(call: &[u8]) -> usize
+    ensures { λ r. ⌜ r ≤ 40 ⌝ }
+{
+    let n = size(call);
+    if n == 0 {
+        return 0;
+    }
+    let asked = octet(call, n - 1) as usize;
+    if 40 < asked {
+        return 40;
+    }
+    asked
 }

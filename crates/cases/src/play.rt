@@ -5,19 +5,21 @@ use libc::STDOUT_FILENO;
 use row::Limits;
 use session::Answer;
 use session::Session;
+use session::Settings;
 
 fn create(lent: &mut [u8], call: &[u8]) {
     let roles = calls::octet(call, 1) as u16;
-    let refusal = tacit::tacit_create(
-        lent,
-        sets::has(roles, 0),
-        sets::has(roles, 1),
-        sets::has(roles, 2),
-        sets::has(roles, 3),
-        calls::number(call, 2),
-        calls::number(call, 6),
-        calls::number(call, 10),
-    );
+    let settings = Settings {
+        initiating: sets::has(roles, 0),
+        active: sets::has(roles, 1),
+        uses_tac: sets::has(roles, 2),
+        drops: sets::has(roles, 3),
+        protected_kinds: calls::number(call, 2),
+        enabled: calls::number(call, 6),
+        first_number: calls::number(call, 10),
+        wishes: calls::number(call, 14),
+    };
+    let refusal = tacit::tacit_create(lent, settings);
     lines::number(refusal as u64);
     lines::octets(lent);
 }
@@ -38,7 +40,7 @@ fn event(lent: &mut [u8], which: u8, call: &[u8]) {
     lines::octets(lent);
 }
 
-fn change_in(room: &mut [u8], lent: &mut [u8], call: &[u8]) {
+fn local_change(room: &mut [u8], lent: &mut [u8], call: &[u8]) {
     let ta_id = calls::number(call, 1);
     let on = calls::octet(call, 5) != 0;
     lines::answer(tacit::tacit_local_change(lent, ta_id, on, room));
@@ -46,10 +48,27 @@ fn change_in(room: &mut [u8], lent: &mut [u8], call: &[u8]) {
     lines::octets(room);
 }
 
-fn local_change(lent: &mut [u8], call: &[u8]) {
-    let mut room = [0xEEu8; 40];
-    let n = calls::room_length(call, 6);
-    change_in(&mut room[..n], lent, call);
+fn wish(room: &mut [u8], lent: &mut [u8], call: &[u8]) {
+    let wishes = calls::number(call, 1);
+    let disable = calls::octet(call, 9) != 0;
+    let after = tacit::tacit_wish(lent, wishes, calls::number(call, 5), disable, room);
+    lines::answer(after.answer);
+    lines::number(after.wishes as u64);
+    lines::octets(lent);
+    lines::octets(room);
+}
+
+fn wish_sac(room: &mut [u8], call: &[u8]) {
+    let w = tacit::tacit_wish_sac(calls::number(call, 1), room);
+    lines::number(w.refusal as u64);
+    lines::number(w.written as u64);
+    lines::octets(room);
+}
+
+fn wanted(call: &[u8]) {
+    let w = tacit::tacit_wanted(calls::number(call, 1), calls::number(call, 5));
+    lines::number(w.refusal as u64);
+    lines::number(w.wanted as u64);
 }
 
 fn permitted(lent: &[u8], call: &[u8]) {
@@ -130,7 +149,7 @@ fn load(lent: &[u8]) {
 }
 
 // The session comes by its fields.
-fn store_in(room: &mut [u8], call: &[u8]) {
+fn store(room: &mut [u8], call: &[u8]) {
     let session = Session {
         state: calls::octet(call, 1),
         flags: calls::octet(call, 2),
@@ -145,16 +164,26 @@ fn store_in(room: &mut [u8], call: &[u8]) {
     lines::octets(room);
 }
 
-fn store(call: &[u8]) {
+// A call that lends a room.
+fn in_room(room: &mut [u8], lent: &mut [u8], which: u8, call: &[u8]) {
+    match which {
+        4 => local_change(room, lent, call),
+        17 => store(room, call),
+        18 => wish(room, lent, call),
+        _ => wish_sac(room, call),
+    }
+}
+
+fn with_room(lent: &mut [u8], which: u8, call: &[u8]) {
     let mut room = [0xEEu8; 40];
-    let n = calls::room_length(call, 18);
-    store_in(&mut room[..n], call);
+    let n = calls::room_length(call);
+    in_room(&mut room[..n], lent, which, call);
 }
 
 fn by_number(lent: &mut [u8], which: u8, call: &[u8]) {
     match which {
         1 => create(lent, call),
-        4 => local_change(lent, call),
+        4 | 17 | 18 | 19 => with_room(lent, which, call),
         8 => permitted(lent, call),
         9 => permitted_kinds(lent),
         10 => retry_interval(lent),
@@ -164,7 +193,7 @@ fn by_number(lent: &mut [u8], which: u8, call: &[u8]) {
         14 => limits(tacit::tacit_no_limits()),
         15 => set_limit(call),
         16 => load(lent),
-        17 => store(call),
+        20 => wanted(call),
         _ => event(lent, which, call),
     }
 }

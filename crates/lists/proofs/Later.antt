@@ -1,12 +1,14 @@
--- Of the elements of a SAC that do anything to an App the later one holds; an App that no element does anything to stays as it was; and no bits
--- come beyond the four Apps. By induction over the elements. Assumes nothing.
+-- Of the elements of a SAC that do anything to an App the later one holds; an App that no element does anything to stays as it was; no bits come
+-- beyond the four Apps; and an element behind the others is applied last. By induction over the elements. Assumes nothing.
 use Prim.Native.Nat.{ℕ, zero, suc, _-_, _^_, _<_, _≤_}
 use native.Mathlib.Omega.{arith}
 use native.Mathlib.Decide.{decLt}
-use mathlib.Core.Path.{_≡_, _∙_, ap, refl}
-use mathlib.Core.List.{List}
+use native.Mathlib.Numerals.{add-one}
+use mathlib.Core.Path.{_≡_, _∙_, ap, ap₂, refl, sym}
+use mathlib.Core.List.{List, [], _∷_, _++_}
 use mathlib.Core.Bool.{Bool, true, not, _&&_}
-use lib.ListN.{length}
+use lib.ListN.{length, getD, length-append, List·getD-append}
+use lib.Seq.{getD-append-seam}
 use lib.Dec.{eqb}
 use borrow.Author.Tests.{eqb-true, eq-eqb}
 use Rattle.choice.proofs.Branch.{by-test, left}
@@ -70,3 +72,22 @@ after-lt v opening s h (suc i) =
 pub sac-list-lt : (v : List ℕ) (opening : Bool) (s : ℕ) → s < 2 ^ appCount → sacList v opening s < 2 ^ appCount
 unfolding sacList
 sac-list-lt v opening s h = after-lt v opening s h (length v - 1)
+
+-- ---- an element behind the others
+module _ (opening : Bool) (s first : ℕ) (elements more : List ℕ) where
+  -- the first i elements are those of the list in front
+  front : (i : ℕ) → i ≤ length elements → sacAfter (first ∷ (elements ++ more)) opening s i ≡ sacAfter (first ∷ elements) opening s i
+  unfolding sacAfter
+  front zero h = refl
+  front (suc i) h =
+      ap₂ (sacElement opening) (front i (omega arith)) (rw add-one (List·getD-append elements more 0 i (omega arith)))
+
+pub sac-behind : (opening : Bool) (s first : ℕ) (elements : List ℕ) (x : ℕ)
+    → sacList (first ∷ (elements ++ (x ∷ []))) opening s ≡ sacElement opening (sacList (first ∷ elements) opening s) x
+unfolding sacList sacAfter
+sac-behind opening s first elements x =
+    let long : length (first ∷ (elements ++ (x ∷ []))) - 1 ≡ suc (length elements) = omega (arith, length-append elements (x ∷ [])) in
+    let short : length (first ∷ elements) - 1 ≡ length elements = omega arith in
+    ap (sacAfter (first ∷ (elements ++ (x ∷ []))) opening s) long
+    ∙ ap₂ (sacElement opening) (front opening s first elements (x ∷ []) (length elements) (omega arith) ∙ sym (ap (sacAfter (first ∷ elements) opening s) short))
+    (rw add-one (getD-append-seam elements x [] 0))

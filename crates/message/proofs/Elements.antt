@@ -1,22 +1,21 @@
 -- The elements of the SAC for an Initialization, one place of the wishes after another: at the most one for each, and behind those before it. And the
 -- SAC in its parts. Assumes nothing.
-use Prim.Native.Nat.{ℕ, zero, suc, _+_, _≤_}
-use mathlib.Core.Path.{_≡_, ap, ap₂, _∙_}
+use Prim.Native.Nat.{ℕ, zero, suc, _+_, _<_, _≤_}
+use mathlib.Core.Path.{_≡_, ap, _∙_}
 use mathlib.Core.Bool.{true, false}
 use mathlib.Core.List.{List, [], _∷_, _++_, append-nil}
 use native.Mathlib.Omega.{arith}
+use native.Mathlib.Decide.{decLt}
 use native.Mathlib.Numerals.{add-one}
 use lib.Dec.{lit≤}
-use lib.ListN.{length, take, length-append}
-use lib.Seq.{take-append-seam}
+use lib.ListN.{length, length-append}
 use Rattle.choice.proofs.Branch.{by-test, taken, left}
 use Rattle.sets.specs.Set.{empty}
-use Rattle.octets.specs.Octets.{topBit, over}
-use Rattle.octets.proofs.Front.{over-fits}
+use Rattle.octets.specs.Octets.{topBit}
 use Rattle.kinds.specs.Kinds.{appCount}
 use Rattle.area.specs.Area.{uBit, sacType}
 use Rattle.area.specs.Tlvs.{Tlv, tlvHead, areaOf}
-use Rattle.message.specs.Sac.{wishElement, wishElements, wishTlv, sacFor, sacOctets}
+use Rattle.message.specs.Sac.{wishElement, wishElements, sacParts, wishTlv, sacFor, sacOctets}
 
 pub element-most : (wishes i : ℕ) → length (wishElement wishes i) ≤ 1
 element-most wishes i = by-test (λ (l : List ℕ). length l ≤ 1) (λ _. lit≤ tt) (λ _. lit≤ tt)
@@ -32,23 +31,20 @@ pub elements-more : (wishes n : ℕ) → wishElements wishes (n + 1) ≡ wishEle
 unfolding wishElements
 elements-more wishes n = ap (wishElements wishes) (add-one n)
 
--- what was put over the front, read back from there
-pub front : (e room : List ℕ) → length e ≤ length room → take (length e) (over e room) ≡ e
-front e room fits = ap (take (length e)) (over-fits e room fits) ∙ take-append-seam e _
-
--- so all of them, from a room that was empty
-pub elements-back : (wishes n : ℕ) (l : List ℕ) → n ≡ length (wishElements wishes appCount) → l ≡ over (wishElements wishes appCount) (0 ∷ 0 ∷ 0 ∷ 0 ∷ [])
-    → take n l ≡ wishElements wishes appCount
-elements-back wishes n l e p = ap₂ take e p ∙ front (wishElements wishes appCount) (0 ∷ 0 ∷ 0 ∷ 0 ∷ []) (elements-most wishes appCount)
+-- those of fewer places are no more
+pub elements-grow : (wishes n m : ℕ) → n ≤ m → length (wishElements wishes n) ≤ length (wishElements wishes m)
+unfolding wishElements
+elements-grow wishes n zero h = let e : n ≡ 0 = omega arith in rw e (omega arith)
+elements-grow wishes n (suc m) h = go (decLt n (suc m)) (λ l. elements-grow wishes n m l)
+  where
+    go : Dec (n < suc m) → (n ≤ m → length (wishElements wishes n) ≤ length (wishElements wishes m)) → length (wishElements wishes n) ≤ length (wishElements wishes (suc m))
+    go (yes l) f = omega (arith, f (omega arith), length-append (wishElements wishes m) (wishElement wishes m))
+    go (no l) f = let e : n ≡ suc m = omega arith in rw e (omega arith)
 
 -- ---- the SAC
 pub sac-none : (wishes : ℕ) → empty wishes ≡ true → sacOctets wishes ≡ []
 unfolding sacFor
 sac-none wishes none = ap areaOf (taken [] (wishTlv wishes ∷ []) none)
-
--- its head, S, and the elements
-abbrev pub sacParts : List ℕ → List ℕ
-sacParts elements = (tlvHead (uBit + sacType) (1 + length elements) ++ (topBit true ∷ [])) ++ elements
 
 pub sac-parts : (wishes : ℕ) → empty wishes ≡ false → sacOctets wishes ≡ sacParts (wishElements wishes appCount)
 unfolding sacFor

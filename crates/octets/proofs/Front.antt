@@ -1,14 +1,14 @@
 -- Octets put over the front of lent ones: one octet more, what has room and what has none, and one part behind another. By the laws of `take`
 -- and `drop` at the seams. Assumes nothing.
 use Prim.Native.Nat.{ℕ, suc, _+_, _-_, _<_, _≤_}
-use mathlib.Core.Path.{_≡_, ap₂, _∙_}
-use mathlib.Core.List.{List, _++_, append-assoc, append-nil}
+use mathlib.Core.Path.{_≡_, sym, ap, ap₂, _∙_}
+use mathlib.Core.List.{List, [], _++_, append-assoc, append-nil}
 use native.Mathlib.Numerals.{add-one}
 use native.Mathlib.Omega.{arith}
 use borrow.Author.Tests.{le-leb, lt-leb}
 use borrow.Rule.Slice.PartMut.{putMid}
-use lib.ListN.{drop-of-length-le, length, getD, take, drop, set, length-append, length-drop}
-use lib.Seq.{set-at, drop-cons, take-suc, append-snoc, length-take-le, take-append-seam, drop-append-seam, drop-drop, take-all}
+use lib.ListN.{drop-of-length-le, length, getD, take, drop, set, length-append, length-drop, take-append-drop}
+use lib.Seq.{set-at, drop-cons, take-suc, append-snoc, length-take-le, take-append-seam, take-append-add, drop-append-seam, drop-append-add, drop-drop, take-all}
 use Rattle.choice.proofs.Branch.{taken, left}
 use Rattle.octets.specs.Octets.{over, overAt}
 
@@ -43,6 +43,24 @@ over-behind a b room h =
     let rest = drop (length a) room in
     rw (over-fits a room (omega arith), over-fits (a ++ b) room (omega arith), take-append-seam, drop-append-seam)
     (rw (over-fits b rest (omega (arith, length-drop (length a) room))) (simp (length-append, drop-drop, append-assoc)))
+
+-- nothing put behind the first octets is nothing put
+pub none-at : (at : ℕ) (l : List ℕ) → l ≡ overAt at [] l
+unfolding overAt
+none-at at l = sym (ap (λ (r : List ℕ). take at l ++ r) (over-fits [] (drop at l) (omega arith)) ∙ take-append-drop at l)
+
+-- the same where both stand behind the first `at` octets
+pub at-then : (at : ℕ) (a b room : List ℕ) {before after : List ℕ} → at + length a + length b ≤ length room → before ≡ overAt at a room
+    → after ≡ overAt (at + length a) b before → after ≡ overAt at (a ++ b) room
+unfolding overAt
+at-then at a b room h e p =
+    let front : length (take at room) ≡ at = length-take-le at room (omega arith) in
+    let rest = drop at room in
+    let moved : at + length a ≡ length (take at room) + length a = ap (λ (n : ℕ). n + length a) (sym front) in
+    p ∙ ap₂ (λ (n : ℕ) (l : List ℕ). take n l ++ over b (drop n l)) moved e
+    ∙ ap₂ (λ (x y : List ℕ). x ++ over b y) (take-append-add (take at room) (over a rest) (length a)) (drop-append-add (take at room) (over a rest) (length a))
+    ∙ append-assoc (take at room) (take (length a) (over a rest)) (over b (drop (length a) (over a rest)))
+    ∙ ap (λ (l : List ℕ). take at room ++ l) (over-behind a b rest (omega (arith, length-drop at room)))
 
 -- the same as a step: after `a` the part b, which came as `written`
 pub then : (a b room : List ℕ) {before after written : List ℕ} → length a + length b ≤ length room → before ≡ over a room → written ≡ b

@@ -18,11 +18,11 @@ use Rattle.session.specs.Events.{Event, Initialization, step, run}
 use Rattle.session.proofs.SoundMeans.{means-sound}
 use Rattle.record.specs.Record.{decoded}
 use Rattle.record.specs.Carried.{recordAfter}
-use Rattle.tacit.proofs.Calls.{initialization-is, capability-is, local-change-is, local-change-room, mismatch-is, hello-is, closed-is}
+use Rattle.tacit.proofs.Calls.{initialization-is, capability-is, local-change-is, local-change-room, wish-is, wish-wishes, wish-room, mismatch-is, hello-is, closed-is}
 use Rattle.promises.specs.Run.{StaysOpen}
 use Rattle.promises.specs.Records.{recordRun, AllNumbered}
 use Rattle.promises.specs.Condition3.{NeverLess}
-use Rattle.promises.specs.Calls.{tacit-initialization, tacit-capability, tacit-local-change, tacit-mismatch, tacit-hello, tacit-closed, CallsAreEvents, RoomsAreEvents, CalledRun, ended, called, CallsFollow, CallsAnswer, PermittedIsAsked, StaysOpenUnder, CallsCondition3}
+use Rattle.promises.specs.Calls.{tacit-initialization, tacit-capability, tacit-local-change, tacit-wish, tacit-mismatch, tacit-hello, tacit-closed, CallsAreEvents, RoomsAreEvents, CalledRun, ended, called, CallsFollow, CallsAnswer, PermittedIsAsked, StaysOpenUnder, CallsCondition3}
 use Rattle.promises.proofs.Records.{Holds, holds, holds-after, still, run-holds, records-follow}
 use Rattle.promises.proofs.Condition3.{condition-3}
 
@@ -30,12 +30,13 @@ pub calls-are-events : CallsAreEvents
 calls-are-events _ _ _ _ (tacit-initialization κs a r s p) = initialization-is κs a r s p
 calls-are-events _ _ _ _ (tacit-capability κs a r s p) = capability-is κs a r s p
 calls-are-events _ _ _ _ (tacit-local-change κs a r s p) = local-change-is κs a r s p
+calls-are-events _ _ _ _ (tacit-wish κs a r s p) = wish-is κs a r s p
 calls-are-events _ _ _ _ (tacit-mismatch κs a r s p) = mismatch-is κs a r s p
 calls-are-events _ _ _ _ (tacit-hello κs a r s p) = hello-is κs a r s p
 calls-are-events _ _ _ _ (tacit-closed κs a r s p) = closed-is κs a r s p
 
 pub rooms-are-events : RoomsAreEvents
-rooms-are-events = local-change-room
+rooms-are-events = record { tacit-local-change = local-change-room; tacit-wish = wish-room }
 
 -- ---- runs of calls
 -- the record that they leave is the one that the events lead to
@@ -78,6 +79,9 @@ calls-answer =
       tacit-permitted = λ κs a r s p. p;
       tacit-permitted-kinds = λ κs a r s p. p;
       tacit-why-not = λ κs a r s p. p;
+      tacit-wish = wish-wishes;
+      tacit-wish-sac = λ κs a r s p. p;
+      tacit-wanted = λ a r s p. p;
       tacit-retry-interval = λ κs a r s p. p;
       tacit-sound = λ κs a r s p. p;
       tacit-load = λ κs a r s p. p;

@@ -23,7 +23,7 @@ use Rattle.session.proofs.View.{view}
 use Rattle.session.proofs.Steps.{step-sound}
 use Rattle.promises.specs.Run.{StaysOpen}
 use Rattle.promises.specs.Words.{Enables, Lists, Maps, Permits}
-use Rattle.promises.specs.Condition3.{Further, NeverLess, Condition3}
+use Rattle.promises.specs.Condition3.{ReadyPair, Further, NeverLess, Condition3}
 
 -- ---- an application in a set, by its number and by its place
 pub in-set : (a n : ℕ) → 1 ≤ n → n ≤ applicationCount → has a (n - 1) ≡ true → isIn a n ≡ true
@@ -121,7 +121,7 @@ unfolding t
 alike-less s u a r r′ o =
     subst (NeverLess s) (sym (a .same-else)) (never-less s (u .enabled) (u .next) (a .more) r (subst Sound (a .same-else) r′) o)
 
-alike-step : (s t : Session) (ev : Event) → Alike s t → Sound s → Sound t → isOpen (step s ev .session) ≡ true → Alike (step s ev .session) (step t ev .session)
+pub alike-step : (s t : Session) (ev : Event) → Alike s t → Sound s → Sound t → isOpen (step s ev .session) ≡ true → Alike (step s ev .session) (step t ev .session)
 alike-step s t ev a r r′ o =
     subst (λ (u : Session). Alike (step s ev .session) (step u ev .session)) (sym (a .same-else))
     (view s (t .enabled) (t .next) (a .more) r (subst Sound (a .same-else) r′) ev .follows o)
@@ -142,13 +142,15 @@ members a b small f k h = go (decLt k applicationCount)
         rw place at (at-place b (k + 1) (f (k + 1) (in-set a (k + 1) (omega arith) (omega arith) (rw place h))) .1)
     go (no l) = absurd (true≢false (sym h ∙ has-above applicationCount a k small (omega arith)))
 
+-- the two that it starts from
+pub ready-alike : (s t : Session) → ReadyPair s t → Alike s t
+ready-alike s t pair =
+    let next : t .next ≡ s .next = ap (λ (u : Session). u .next) (pair .alike) in
+    record {
+      same-else = pair .alike ∙ ap (withOtherEnabled s (t .enabled)) (sym next);
+      more = members (s .enabled) (t .enabled) (sound-means s (pair .first-sound) .enabled) (pair .more);
+    }
+
 pub condition-3 : Condition3
 condition-3 s t area belowLimit es pair =
-    let r = sound-means s (pair .first-sound) in
-    let next : t .next ≡ s .next = ap (λ (u : Session). u .next) (pair .alike) in
-    over s t (Initialization area belowLimit) es
-    (record {
-      same-else = pair .alike ∙ ap (withOtherEnabled s (t .enabled)) (sym next);
-      more = members (s .enabled) (t .enabled) (r .enabled) (pair .more);
-    })
-    r (sound-means t (pair .second-sound))
+    over s t (Initialization area belowLimit) es (ready-alike s t pair) (sound-means s (pair .first-sound)) (sound-means t (pair .second-sound))

@@ -1,4 +1,5 @@
--- Creation leaves the record of a fresh session, which is sound, or is refused: by cases on its two tests, and the round trip of records. Assumes nothing.
+-- Creation leaves the record of a fresh session, which is sound, and sound wishes, or is refused: by cases on its tests, and the round trip of records.
+-- Assumes nothing.
 use Prim.Native.Nat.{ℕ, _<_, _^_}
 use mathlib.Core.Path.{_≡_, refl, sym, ap, _∙_, subst}
 use mathlib.Core.Bool.{Bool, true, false}
@@ -12,12 +13,12 @@ use Rattle.sets.specs.Set.{below}
 use Rattle.sets.proofs.Bounds.{below-lt}
 use Rattle.refusals.specs.Refusals.{notRefused, outOfRange}
 use Rattle.kinds.specs.Kinds.{applicationCount, kindCount}
-use Rattle.session.specs.declared.Session.{Session}
+use Rattle.wishes.specs.Wishes.{soundWishes}
+use Rattle.session.specs.declared.Settings.{Settings}
 use Rattle.session.specs.declared.Created.{Created}
 use Rattle.session.specs.declared.Created.the-variants.{Fresh, Refused}
 use Rattle.session.specs.Session.{sound}
-use Rattle.session.specs.With.{fresh}
-use Rattle.session.specs.Creation.{roleFlags, created}
+use Rattle.session.specs.Creation.{freshBy, created}
 use Rattle.session.proofs.SoundMeans.{means-sound}
 use Rattle.session.proofs.Made.{fresh-sound}
 use Rattle.record.specs.Record.{recordLength, storedIn, decoded}
@@ -25,12 +26,9 @@ use Rattle.record.proofs.RoundTrip.{read-back}
 use Rattle.tacit.specs.Creation.{creationRefusal, createdIn}
 use Rattle.promises.specs.Calls.{CreationIsSound}
 
-module _ (i a u d : Bool) (protects enabled first : ℕ) (small : first < 2 ^ 32) (l : List ℕ) where
-  abbrev asked : Session
-  asked = fresh (roleFlags i a u d) protects enabled first
-
+module _ (t : Settings) (small : t .«first_number» < 2 ^ 32) (l : List ℕ) where
   abbrev Made : List ℕ → Type 0
-  Made l′ = (decoded l′ ≡ asked) × (sound (decoded l′) ≡ true)
+  Made l′ = (decoded l′ ≡ freshBy t) × (sound (decoded l′) ≡ true) × (soundWishes (t .wishes) ≡ true)
 
   abbrev Leaves : Created → Type 0
   Leaves c = creationRefusal c l ≡ notRefused → Made (createdIn c l)
@@ -44,27 +42,29 @@ module _ (i a u d : Bool) (protects enabled first : ℕ) (small : first < 2 ^ 32
       go true e q = absurd (omega (arith, sym (taken _ _ e) ∙ q))
       go false e q = absurd (omega (arith, sym (left _ _ e) ∙ q))
 
-  fresh-leaves : protects < 2 ^ kindCount → enabled < 2 ^ applicationCount → Leaves (Fresh asked)
+  fresh-leaves : t .«protected_kinds» < 2 ^ kindCount → t .enabled < 2 ^ applicationCount → soundWishes (t .wishes) ≡ true → Leaves (Fresh (freshBy t))
   unfolding creationRefusal createdIn storedIn
-  fresh-leaves hp he = go (eqb (length l) recordLength) refl
+  fresh-leaves hp he hw = go (eqb (length l) recordLength) refl
     where
-      is-sound : sound asked ≡ true
-      is-sound = means-sound asked (fresh-sound i a u d protects enabled first hp he)
+      is-sound : sound (freshBy t) ≡ true
+      is-sound = means-sound (freshBy t) (fresh-sound (t .initiating) (t .active) (t .«uses_tac») (t .drops) (t .«protected_kinds») (t .enabled) (t .«first_number») hp he)
 
-      go : (x : Bool) → eqb (length l) recordLength ≡ x → creationRefusal (Fresh asked) l ≡ notRefused → Made (createdIn (Fresh asked) l)
+      go : (x : Bool) → eqb (length l) recordLength ≡ x → creationRefusal (Fresh (freshBy t)) l ≡ notRefused → Made (createdIn (Fresh (freshBy t)) l)
       go true e q =
-          let back : decoded (createdIn (Fresh asked) l) ≡ asked = ap decoded (taken _ _ e) ∙ read-back asked is-sound (lit< tt) small in
-          (back, ap sound back ∙ is-sound)
+          let back : decoded (createdIn (Fresh (freshBy t)) l) ≡ freshBy t = ap decoded (taken _ _ e) ∙ read-back (freshBy t) is-sound (lit< tt) small in
+          (back, ap sound back ∙ is-sound, hw)
       go false e q = absurd (omega (arith, sym (left _ _ e) ∙ q))
 
-  leaves : Leaves (created (roleFlags i a u d) protects enabled first)
+  leaves : Leaves (created t)
   unfolding created
   leaves =
       by-test Leaves
-      (λ h. fresh-leaves (below-lt kindCount protects (and-first (below kindCount protects) _ h)) (below-lt applicationCount enabled (and-second (below kindCount protects) _ h)))
+      (λ h.
+          let rest = and-second (below kindCount (t .«protected_kinds»)) _ h in
+          fresh-leaves (below-lt kindCount (t .«protected_kinds») (and-first (below kindCount (t .«protected_kinds»)) _ h))
+          (below-lt applicationCount (t .enabled) (and-first (below applicationCount (t .enabled)) _ rest)) (and-second (below applicationCount (t .enabled)) _ rest))
       (λ _. refused-leaves)
 
 pub creation-is-sound : CreationIsSound
 creation-is-sound κs a r s p q small =
-    subst (λ (l : List ℕ). Made (a .1 .0) (a .1 .1 .0) (a .1 .1 .1 .0) (a .1 .1 .1 .1 .0) (a .1 .1 .1 .1 .1 .0) (a .1 .1 .1 .1 .1 .1 .0) (a .1 .1 .1 .1 .1 .1 .1 .0) small (a .0 .now) l) (sym (p .octets))
-    (leaves (a .1 .0) (a .1 .1 .0) (a .1 .1 .1 .0) (a .1 .1 .1 .1 .0) (a .1 .1 .1 .1 .1 .0) (a .1 .1 .1 .1 .1 .1 .0) (a .1 .1 .1 .1 .1 .1 .1 .0) small (a .0 .now) (sym (p .refusal) ∙ q))
+    subst (λ (l : List ℕ). Made (a .1 .0) small (a .0 .now) l) (sym (p .octets)) (leaves (a .1 .0) small (a .0 .now) (sym (p .refusal) ∙ q))

@@ -1,6 +1,11 @@
 -- Every public function's promise determines its outcome: it is an equation with what the function was handed, or two or three of them. Assumes nothing.
+use Prim.Native.Nat.{ℕ}
+use mathlib.Core.Path.{_≡_, ap, ap₂, _∙_}
 use Rattle.choice.proofs.Determined.{by-equation, by-law, both-same}
-use Rattle.promises.specs.Determined.{SetsDetermined, KindsDetermined, OctetsDetermined, AreaDetermined, ListsDetermined, MessageDetermined, SessionDetermined, RecordDetermined, RowDetermined, TacitDetermined, AllDetermined}
+use Rattle.wishes.specs.Wishes.{wishesAfter}
+use Rattle.session.specs.declared.Answer.{Answer}
+use Rattle.tacit.specs.declared.Wished.{Wished}
+use Rattle.promises.specs.Determined.{SetsDetermined, KindsDetermined, OctetsDetermined, AreaDetermined, ListsDetermined, MessageDetermined, WishesDetermined, SessionDetermined, RecordDetermined, RowDetermined, TacitDetermined, AllDetermined}
 
 sets-determined : SetsDetermined
 sets-determined =
@@ -11,6 +16,7 @@ sets-determined =
       union = by-equation _;
       minus = by-equation _;
       numbered = by-equation _;
+      holds = by-equation _;
       switched = by-equation _;
     }
 
@@ -20,6 +26,8 @@ kinds-determined =
       is-known = by-equation _;
       is-in = by-equation _;
       switched = by-equation _;
+      app-is-known = by-equation _;
+      app-is-in = by-equation _;
       app-switched = by-equation _;
       opens-kind = by-equation _;
       opened = by-equation _;
@@ -58,6 +66,16 @@ message-determined : MessageDetermined
 message-determined =
     record {
       write = λ κs. by-law _ (λ a r s p. p);
+      write-sac = λ κs. by-law _ (λ a r s p. both-same (p .0) (p .1));
+    }
+
+wishes-determined : WishesDetermined
+wishes-determined =
+    record {
+      sound = by-equation _;
+      after = by-equation _;
+      wanted = by-equation _;
+      sac = λ κs. by-law _ (λ a r s p. both-same (p .0) (p .1));
     }
 
 session-determined : SessionDetermined
@@ -74,6 +92,7 @@ session-determined =
       used-when-sound = by-equation _;
       capability = λ κs. by-equation _;
       local-change = by-equation _;
+      wish = by-equation _;
       mismatch-when-sound = by-equation _;
       mismatch = by-equation _;
       hello-when-sound = by-equation _;
@@ -107,6 +126,11 @@ row-determined =
       tally-of = λ κs. by-equation _;
     }
 
+-- an answer, and wishes that go by its refusal
+answered-with : (r : Wished) (answer : Answer) (wishes : Answer → ℕ) → r .answer ≡ answer → r .wishes ≡ wishes (r .answer)
+    → r ≡ record { answer = answer; wishes = wishes answer }
+answered-with r answer wishes p q = ap₂ (λ (a : Answer) (n : ℕ). record { answer = a; wishes = n }) p (q ∙ ap wishes p)
+
 tacit-determined : TacitDetermined
 tacit-determined =
     record {
@@ -115,6 +139,9 @@ tacit-determined =
       tacit-initialization = λ κs. by-law _ (λ a r s p. both-same (p .answer) (p .octets));
       tacit-capability = λ κs. by-law _ (λ a r s p. both-same (p .answer) (p .octets));
       tacit-local-change = λ κs. by-law _ (λ a r s p. both-same (p .0 .answer) (both-same (p .0 .octets) (p .1)));
+      tacit-wish = λ κs. by-law _ (λ a r s p. both-same (answered-with r _ (λ (b : Answer). wishesAfter (a .1 .0) (a .1 .1 .0) (a .1 .1 .1 .0) (b .refusal)) (p .0 .answer) (p .1 .0)) (both-same (p .0 .octets) (p .1 .1)));
+      tacit-wish-sac = λ κs. by-law _ (λ a r s p. both-same (p .0) (p .1));
+      tacit-wanted = by-equation _;
       tacit-mismatch = λ κs. by-law _ (λ a r s p. both-same (p .answer) (p .octets));
       tacit-hello = λ κs. by-law _ (λ a r s p. both-same (p .answer) (p .octets));
       tacit-closed = λ κs. by-law _ (λ a r s p. both-same (p .answer) (p .octets));
@@ -140,6 +167,7 @@ all-determined =
       area = area-determined;
       lists = lists-determined;
       message = message-determined;
+      wishes = wishes-determined;
       session = session-determined;
       records = record-determined;
       row = row-determined;

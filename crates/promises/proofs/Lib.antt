@@ -12,3 +12,5 @@ pub mod RowRecords
 pub mod Creation
 pub mod Determined
 pub mod Why
+pub mod Wishes
+pub mod WishesRead

@@ -15,7 +15,7 @@ use Rattle.session.specs.declared.After.{After}
 use Rattle.session.specs.Session.{sound, Sound}
 use Rattle.session.specs.With.{withEnabled}
 use Rattle.session.specs.Decisions.{Negotiate, settled}
-use Rattle.session.specs.Events.{afterInitialization, Event, Initialization, Capability, LocalChange, Mismatch, Hello, Closed, Unknown, step, run, roomAfter}
+use Rattle.session.specs.Events.{afterInitialization, Event, Initialization, Capability, LocalChange, Wish, Mismatch, Hello, Closed, Unknown, step, run, roomAfter}
 use Rattle.session.proofs.SoundMeans.{sound-means, means-sound}
 use Rattle.session.proofs.View.{Enabling}
 use Rattle.session.proofs.Steps.{step-sound, step-bare, unsound-refused, admit-all, initialization-along, as-told}
@@ -54,6 +54,7 @@ found-or-told s e h = go (sound s) refl
     enabled (Initialization area belowLimit) t f = f
     enabled (Capability area) t f = f
     enabled (LocalChange n on room) t f = ap (λ (z : Session). z .enabled) (f .is)
+    enabled (Wish wishes n disable room) t f = f
     enabled Mismatch t f = f
     enabled (Hello number) t f = f
     enabled Closed t f = f

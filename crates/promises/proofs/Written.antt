@@ -1,8 +1,8 @@
 -- What we write is read as we meant it. A message was written only for a known application and with room for it, so its last 9 octets are the TAC of one
 -- element; and reading that, the other end switches that application in its list, or in an empty one where negotiation was not in force, and nothing else. Assumes nothing.
-use Prim.Native.Nat.{ℕ, _-_, _≤_}
+use Prim.Native.Nat.{ℕ, _≤_}
 use mathlib.Core.Path.{_≡_, refl, sym, ap, ap₂, _∙_}
-use mathlib.Core.Bool.{Bool, true, false, _&&_, and-false}
+use mathlib.Core.Bool.{Bool, true, false}
 use mathlib.Core.List.{List}
 use native.Mathlib.Omega.{arith}
 use lib.Dec.{ltb, lit<}
@@ -14,8 +14,8 @@ use Rattle.choice.proofs.Branch.{by-test, taken, left}
 use Rattle.choice.proofs.Tests.{and-both}
 use Rattle.sets.specs.Set.{has, one, union, with, switched}
 use Rattle.sets.proofs.Flags as flag
-use Rattle.sets.proofs.Members.{has-none, with-has}
-use Rattle.sets.proofs.Switches.{numbered-is, switched-same, switched-other}
+use Rattle.sets.proofs.Members.{with-has}
+use Rattle.sets.proofs.Switches.{numbered-is, holds-same, holds-other, holds-none}
 use Rattle.kinds.specs.Kinds.{applicationCount, knownApplication, isIn}
 use Rattle.octets.specs.Octets.{over}
 use Rattle.area.specs.declared.Reading.{Reading}
@@ -27,7 +27,7 @@ use Rattle.session.specs.declared.Session.{Session}
 use Rattle.session.specs.declared.After.{After}
 use Rattle.session.specs.Session.{usesTac, inForce, inForceBit, flagCount, sound}
 use Rattle.session.specs.With.{withFlags, withListed}
-use Rattle.session.specs.Decisions.{answered, Decision, Refused, Unchanged, Done, AsMismatch, Negotiate, Admit, Send, settled}
+use Rattle.session.specs.Decisions.{answered, Decision, Refused, Unchanged, Done, AsMismatch, Negotiate, Admit, Send, Tell, settled}
 use Rattle.session.specs.Events.{unlessRefused, takesTac, flagsAfter, listAfter, afterCapability, onCapability, Event, Capability, LocalChange, decision, step, run, roomAfter}
 use Rattle.session.proofs.SoundMeans.{sound-means}
 use Rattle.session.proofs.View.{Facts, facts-of}
@@ -56,6 +56,7 @@ module _ (s : Session) (n : ℕ) (on : Bool) (room : ℕ) where
   tells (Admit t belowLimit) f = absurd (f .1)
   tells (Send t written) f =
       by-test Tells (λ _ e. absurd (omega arith)) (λ _ _. record { known = f .0 .makes .enabling .known; enough = f .1 .enough })
+  tells (Tell written) f = absurd f
 
   wrote : step s change .answer .written ≡ changeLength → Wrote n room
   wrote = go (sound s) refl
@@ -75,26 +76,17 @@ area-of s n on room w =
     ∙ last-nine (s .next) n on
 
 -- ---- a set of applications with one of them switched
-module _ (l n : ℕ) (on : Bool) (known : knownApplication n ≡ true) where
-  that : isIn (switched applicationCount l n on) n ≡ on
-  unfolding isIn
-  that =
-      let k = numbered-is applicationCount n known in
-      ap (λ (b : Bool). b && has (switched applicationCount l n on) (n - 1)) known ∙ switched-same applicationCount l n on (k .0) (k .1)
+that : (l n : ℕ) (on : Bool) → knownApplication n ≡ true → isIn (switched applicationCount l n on) n ≡ on
+unfolding isIn
+that = holds-same applicationCount
 
-  no-other : (m : ℕ) → (m ≡ n → ⊥) → isIn (switched applicationCount l n on) m ≡ isIn l m
-  unfolding isIn
-  no-other m ne = go (knownApplication m) refl
-    where
-      go : (x : Bool) → knownApplication m ≡ x → (knownApplication m && has (switched applicationCount l n on) (m - 1)) ≡ (knownApplication m && has l (m - 1))
-      go true e =
-          let k = numbered-is applicationCount m e in
-          ap (λ (b : Bool). knownApplication m && b) (switched-other applicationCount l n on (m - 1) (λ q. ne (omega arith)))
-      go false e = rw e refl
+no-other : (l n : ℕ) (on : Bool) (m : ℕ) → (m ≡ n → ⊥) → isIn (switched applicationCount l n on) m ≡ isIn l m
+unfolding isIn
+no-other = holds-other applicationCount
 
 none-in : (m : ℕ) → isIn 0 m ≡ false
 unfolding isIn
-none-in m = ap (λ (b : Bool). knownApplication m && b) (has-none (m - 1)) ∙ and-false (knownApplication m)
+none-in = holds-none applicationCount
 
 -- ---- at the other end
 module _ (t : Session) (o : OtherEnd t) (n : ℕ) (on : Bool) (known : knownApplication n ≡ true) where
@@ -134,7 +126,7 @@ module _ (t : Session) (o : OtherEnd t) (n : ℕ) (on : Bool) (known : knownAppl
       record {
         event = event-is ∙ ap₂ (λ (g l : ℕ). settled t (Negotiate (withListed (withFlags t g) l))) flags list;
         that = that (t .listed) n on known;
-        no-other = no-other (t .listed) n on known;
+        no-other = no-other (t .listed) n on;
       }
 
   -- or comes into force
@@ -145,7 +137,7 @@ module _ (t : Session) (o : OtherEnd t) (n : ℕ) (on : Bool) (known : knownAppl
         event = event-is ∙ ap (λ (l : ℕ). settled t (Negotiate (withListed (withFlags t (union (t .flags) (one inForceBit))) (switched applicationCount l n on)))) (left (t .listed) 0 f);
         force = flag.on (t .flags) (one inForceBit) inForceBit refl;
         that = that 0 n on known;
-        no-other = λ m ne. no-other 0 n on known m ne ∙ none-in m;
+        no-other = λ m ne. no-other 0 n on m ne ∙ none-in m;
       }
 
 pub read-as-meant : ReadAsMeant

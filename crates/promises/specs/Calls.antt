@@ -10,9 +10,9 @@ use Rattle.refusals.specs.Refusals.{notRefused}
 use Rattle.kinds.specs.Kinds.{kindCount, allApplications}
 use Rattle.session.specs.declared.Answer.{Answer}
 use Rattle.session.specs.Session.{isOpen, sound}
-use Rattle.session.specs.With.{fresh}
-use Rattle.session.specs.Creation.{roleFlags, created}
-use Rattle.session.specs.Events.{Event, Initialization, Capability, LocalChange, Mismatch, Hello, Closed, step, run, roomAfter}
+use Rattle.wishes.specs.Wishes.{soundWishes, wishesAfter, wanted, wishSac, sacRoom}
+use Rattle.session.specs.Creation.{freshBy, created}
+use Rattle.session.specs.Events.{Event, Initialization, Capability, LocalChange, Wish, Mismatch, Hello, Closed, step, run, roomAfter}
 use Rattle.session.specs.Questions.{permission, permittedKinds, whyNot, retryInterval}
 use Rattle.area.specs.Area.{readArea}
 use Rattle.row.specs.Limiting.{noLimits, limited}
@@ -25,6 +25,7 @@ use Rattle.tacit.proofs.tacit_create.Reads as create
 use Rattle.tacit.proofs.tacit_initialization.Reads as initialization
 use Rattle.tacit.proofs.tacit_capability.Reads as capability
 use Rattle.tacit.proofs.tacit_local_change.Reads as local-change
+use Rattle.tacit.proofs.tacit_wish.Reads as wish
 use Rattle.tacit.proofs.tacit_mismatch.Reads as mismatch
 use Rattle.tacit.proofs.tacit_hello.Reads as hello
 use Rattle.tacit.proofs.tacit_closed.Reads as closed
@@ -32,6 +33,8 @@ use Rattle.tacit.proofs.tacit_read.Reads as read
 use Rattle.tacit.proofs.tacit_permitted.Reads as permitted
 use Rattle.tacit.proofs.tacit_permitted_kinds.Reads as permitted-kinds
 use Rattle.tacit.proofs.tacit_why_not.Reads as why-not
+use Rattle.tacit.proofs.tacit_wish_sac.Reads as wish-sac
+use Rattle.tacit.proofs.tacit_wanted.Reads as is-wanted
 use Rattle.tacit.proofs.tacit_retry_interval.Reads as retry-interval
 use Rattle.tacit.proofs.tacit_sound.Reads as is-sound
 use Rattle.tacit.proofs.tacit_load.Reads as loaded
@@ -51,6 +54,8 @@ pub data Called : Event → List ℕ → Answer → List ℕ → Type 0 where
   tacit-capability : (κs : _) (a r s : _) → capability.Post κs a r s → Called (Capability (a .1 .0 .now)) (a .0 .now) r (s .0 .now)
   tacit-local-change : (κs : _) (a r s : _) → local-change.Post κs a r s
       → Called (LocalChange (a .1 .0) (a .1 .1 .0) (length (a .1 .1 .1 .0 .now))) (a .0 .now) r (s .0 .now)
+  tacit-wish : (κs : _) (a r s : _) → wish.Post κs a r s
+      → Called (Wish (a .1 .0) (a .1 .1 .0) (a .1 .1 .1 .0) (length (a .1 .1 .1 .1 .0 .now))) (a .0 .now) (r .answer) (s .0 .now)
   tacit-mismatch : (κs : _) (a r s : _) → mismatch.Post κs a r s → Called Mismatch (a .0 .now) r (s .0 .now)
   tacit-hello : (κs : _) (a r s : _) → hello.Post κs a r s → Called (Hello (a .1 .0)) (a .0 .now) r (s .0 .now)
   tacit-closed : (κs : _) (a r s : _) → closed.Post κs a r s → Called Closed (a .0 .now) r (s .0 .now)
@@ -59,11 +64,14 @@ pub data Called : Event → List ℕ → Answer → List ℕ → Type 0 where
 abbrev pub CallsAreEvents : Type 0
 CallsAreEvents = (e : Event) (l : List ℕ) (r : Answer) (l′ : List ℕ) → Called e l r l′ → Carried (step (decoded l) e) l r l′
 
--- and the room that a local change was lent is the event's
-abbrev pub RoomsAreEvents : Type 0
-RoomsAreEvents =
-    (κs : _) (a r s : _) → local-change.Post κs a r s
-    → s .1 .1 .1 .0 .now ≡ roomAfter (decoded (a .0 .now)) (LocalChange (a .1 .0) (a .1 .1 .0) (length (a .1 .1 .1 .0 .now))) (a .1 .1 .1 .0 .now)
+-- and the room that a local change or a wish was lent is the event's
+pub record RoomsAreEvents : Type 0 where
+  pub tacit-local-change :
+      (κs : _) (a r s : _) → local-change.Post κs a r s
+      → s .1 .1 .1 .0 .now ≡ roomAfter (decoded (a .0 .now)) (LocalChange (a .1 .0) (a .1 .1 .0) (length (a .1 .1 .1 .0 .now))) (a .1 .1 .1 .0 .now)
+  pub tacit-wish :
+      (κs : _) (a r s : _) → wish.Post κs a r s
+      → s .1 .1 .1 .1 .0 .now ≡ roomAfter (decoded (a .0 .now)) (Wish (a .1 .0) (a .1 .1 .0) (a .1 .1 .1 .0) (length (a .1 .1 .1 .1 .0 .now))) (a .1 .1 .1 .1 .0 .now)
 
 -- ---- one call after another, each on the record that the one before it left
 pub data CalledRun : List Event → List ℕ → List ℕ → Type 0 where
@@ -76,22 +84,24 @@ CallsFollow =
     (es : List Event) (l n : List ℕ) → Octets l → sound (decoded l) ≡ true → AllNumbered es → CalledRun es l n
     → (decoded n ≡ run (decoded l) es) × (sound (decoded n) ≡ true)
 
--- ---- creation: where it is not refused, the record holds the fresh session that was asked for, and is sound
+-- ---- creation: where it is not refused, the record holds the fresh session that was asked for, and is sound, and so are the wishes
 abbrev pub CreationIsSound : Type 0
 CreationIsSound =
-    (κs : _) (a r s : _) → create.Post κs a r s → r ≡ notRefused → a .1 .1 .1 .1 .1 .1 .1 .0 < 2 ^ 32
-    → (decoded (s .0 .now) ≡ fresh (roleFlags (a .1 .0) (a .1 .1 .0) (a .1 .1 .1 .0) (a .1 .1 .1 .1 .0)) (a .1 .1 .1 .1 .1 .0) (a .1 .1 .1 .1 .1 .1 .0) (a .1 .1 .1 .1 .1 .1 .1 .0))
-    × (sound (decoded (s .0 .now)) ≡ true)
+    (κs : _) (a r s : _) → create.Post κs a r s → r ≡ notRefused → a .1 .0 .«first_number» < 2 ^ 32
+    → (decoded (s .0 .now) ≡ freshBy (a .1 .0)) × (sound (decoded (s .0 .now)) ≡ true) × (soundWishes (a .1 .0 .wishes) ≡ true)
 
 -- ---- the other calls, each by the definition that is its own
 pub record CallsAnswer : Type 0 where
   pub tacit-create : (κs : _) (a r s : _) → create.Post κs a r s
-      → CreatedIn (created (roleFlags (a .1 .0) (a .1 .1 .0) (a .1 .1 .1 .0) (a .1 .1 .1 .1 .0)) (a .1 .1 .1 .1 .1 .0) (a .1 .1 .1 .1 .1 .1 .0) (a .1 .1 .1 .1 .1 .1 .1 .0))
-      (a .0 .now) r (s .0 .now)
+      → CreatedIn (created (a .1 .0)) (a .0 .now) r (s .0 .now)
   pub tacit-read : (κs : _) (a r s : _) → read.Post κs a r s → r ≡ readArea (a .0 .now)
   pub tacit-permitted : (κs : _) (a r s : _) → permitted.Post κs a r s → r ≡ permission (decoded (a .0 .now)) (a .1 .0)
   pub tacit-permitted-kinds : (κs : _) (a r s : _) → permitted-kinds.Post κs a r s → r ≡ permittedKinds (decoded (a .0 .now))
   pub tacit-why-not : (κs : _) (a r s : _) → why-not.Post κs a r s → r ≡ whyNot (decoded (a .0 .now)) (a .1 .0)
+  pub tacit-wish : (κs : _) (a r s : _) → wish.Post κs a r s → r .wishes ≡ wishesAfter (a .1 .0) (a .1 .1 .0) (a .1 .1 .1 .0) (r .answer .refusal)
+  pub tacit-wish-sac : (κs : _) (a r s : _) → wish-sac.Post κs a r s
+      → (r ≡ wishSac (a .0) (length (a .1 .0 .now))) × (s .1 .0 .now ≡ sacRoom (a .0) (a .1 .0 .now))
+  pub tacit-wanted : (a r s : _) → is-wanted.Post tt a r s → r ≡ wanted (a .0) (a .1 .0)
   pub tacit-retry-interval : (κs : _) (a r s : _) → retry-interval.Post κs a r s → r ≡ retryInterval (decoded (a .0 .now))
   pub tacit-sound : (κs : _) (a r s : _) → is-sound.Post κs a r s → r ≡ sound (decoded (a .0 .now))
   pub tacit-load : (κs : _) (a r s : _) → loaded.Post κs a r s → r ≡ load (a .0 .now)

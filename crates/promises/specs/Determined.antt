@@ -8,10 +8,13 @@ use Rattle.sets.proofs.meets.Reads as sets-meets
 use Rattle.sets.proofs.union.Reads as sets-union
 use Rattle.sets.proofs.minus.Reads as sets-minus
 use Rattle.sets.proofs.numbered.Reads as sets-numbered
+use Rattle.sets.proofs.holds.Reads as sets-holds
 use Rattle.sets.proofs.switched.Reads as sets-switched
 use Rattle.kinds.proofs.TaId.is_known.Reads as kinds-is-known
 use Rattle.kinds.proofs.TaId.is_in.Reads as kinds-is-in
 use Rattle.kinds.proofs.TaId.switched.Reads as kinds-switched
+use Rattle.kinds.proofs.SacApp.is_known.Reads as kinds-app-is-known
+use Rattle.kinds.proofs.SacApp.is_in.Reads as kinds-app-is-in
 use Rattle.kinds.proofs.SacApp.switched.Reads as kinds-app-switched
 use Rattle.kinds.proofs.opens_kind.Reads as kinds-opens-kind
 use Rattle.kinds.proofs.opened.Reads as kinds-opened
@@ -30,6 +33,11 @@ use Rattle.lists.proofs.s_bit.Reads as lists-s-bit
 use Rattle.lists.proofs.tac_list.Reads as lists-tac-list
 use Rattle.lists.proofs.sac_list.Reads as lists-sac-list
 use Rattle.message.proofs.write.Reads as message-write
+use Rattle.message.proofs.sac.write_sac.Reads as message-write-sac
+use Rattle.wishes.proofs.sound.Reads as wishes-sound
+use Rattle.wishes.proofs.after.Reads as wishes-after
+use Rattle.wishes.proofs.wanted.Reads as wishes-wanted
+use Rattle.wishes.proofs.sac.Reads as wishes-sac
 use Rattle.session.proofs.Session.new.Reads as session-new
 use Rattle.session.proofs.Session.sound.Reads as session-sound
 use Rattle.session.proofs.Session.permitted_kinds.Reads as session-permitted-kinds
@@ -41,6 +49,7 @@ use Rattle.session.proofs.Session.initialization.Reads as session-initializatio
 use Rattle.session.proofs.Session.used_when_sound.Reads as session-used-when-sound
 use Rattle.session.proofs.Session.capability.Reads as session-capability
 use Rattle.session.proofs.Session.local_change.Reads as session-local-change
+use Rattle.session.proofs.Session.wish.Reads as session-wish
 use Rattle.session.proofs.Session.mismatch_when_sound.Reads as session-mismatch-when-sound
 use Rattle.session.proofs.Session.mismatch.Reads as session-mismatch
 use Rattle.session.proofs.Session.hello_when_sound.Reads as session-hello-when-sound
@@ -66,6 +75,9 @@ use Rattle.tacit.proofs.tacit_read.Reads as tacit-read
 use Rattle.tacit.proofs.tacit_initialization.Reads as tacit-initialization
 use Rattle.tacit.proofs.tacit_capability.Reads as tacit-capability
 use Rattle.tacit.proofs.tacit_local_change.Reads as tacit-local-change
+use Rattle.tacit.proofs.tacit_wish.Reads as tacit-wish
+use Rattle.tacit.proofs.tacit_wish_sac.Reads as tacit-wish-sac
+use Rattle.tacit.proofs.tacit_wanted.Reads as tacit-wanted
 use Rattle.tacit.proofs.tacit_mismatch.Reads as tacit-mismatch
 use Rattle.tacit.proofs.tacit_hello.Reads as tacit-hello
 use Rattle.tacit.proofs.tacit_closed.Reads as tacit-closed
@@ -87,12 +99,15 @@ pub record SetsDetermined : Type 0 where
   pub union : Determined (sets-union.Post tt)
   pub minus : Determined (sets-minus.Post tt)
   pub numbered : Determined (sets-numbered.Post tt)
+  pub holds : Determined (sets-holds.Post tt)
   pub switched : Determined (sets-switched.Post tt)
 
 pub record KindsDetermined : Type 0 where
   pub is-known : Determined (kinds-is-known.Post tt)
   pub is-in : Determined (kinds-is-in.Post tt)
   pub switched : Determined (kinds-switched.Post tt)
+  pub app-is-known : Determined (kinds-app-is-known.Post tt)
+  pub app-is-in : Determined (kinds-app-is-in.Post tt)
   pub app-switched : Determined (kinds-app-switched.Post tt)
   pub opens-kind : Determined (kinds-opens-kind.Post tt)
   pub opened : Determined (kinds-opened.Post tt)
@@ -119,6 +134,13 @@ pub record ListsDetermined : Type 0 where
 
 pub record MessageDetermined : Type 0 where
   pub write : (κs : _) → Determines (message-write.Post κs) (λ r s. s .0 .now)
+  pub write-sac : (κs : _) → Determines (message-write-sac.Post κs) (λ r s. both r (s .0 .now))
+
+pub record WishesDetermined : Type 0 where
+  pub sound : Determined (wishes-sound.Post tt)
+  pub after : Determined (wishes-after.Post tt)
+  pub wanted : Determined (wishes-wanted.Post tt)
+  pub sac : (κs : _) → Determines (wishes-sac.Post κs) (λ r s. both r (s .1 .0 .now))
 
 pub record SessionDetermined : Type 0 where
   pub new : Determined (session-new.Post tt)
@@ -132,6 +154,7 @@ pub record SessionDetermined : Type 0 where
   pub used-when-sound : Determined (session-used-when-sound.Post tt)
   pub capability : (κs : _) → Determined (session-capability.Post κs)
   pub local-change : Determined (session-local-change.Post tt)
+  pub wish : Determined (session-wish.Post tt)
   pub mismatch-when-sound : Determined (session-mismatch-when-sound.Post tt)
   pub mismatch : Determined (session-mismatch.Post tt)
   pub hello-when-sound : Determined (session-hello-when-sound.Post tt)
@@ -164,6 +187,9 @@ pub record TacitDetermined : Type 0 where
   pub tacit-initialization : (κs : _) → Determines (tacit-initialization.Post κs) (λ r s. both r (s .0 .now))
   pub tacit-capability : (κs : _) → Determines (tacit-capability.Post κs) (λ r s. both r (s .0 .now))
   pub tacit-local-change : (κs : _) → Determines (tacit-local-change.Post κs) (λ r s. both r (both (s .0 .now) (s .1 .1 .1 .0 .now)))
+  pub tacit-wish : (κs : _) → Determines (tacit-wish.Post κs) (λ r s. both r (both (s .0 .now) (s .1 .1 .1 .1 .0 .now)))
+  pub tacit-wish-sac : (κs : _) → Determines (tacit-wish-sac.Post κs) (λ r s. both r (s .1 .0 .now))
+  pub tacit-wanted : Determined (tacit-wanted.Post tt)
   pub tacit-mismatch : (κs : _) → Determines (tacit-mismatch.Post κs) (λ r s. both r (s .0 .now))
   pub tacit-hello : (κs : _) → Determines (tacit-hello.Post κs) (λ r s. both r (s .0 .now))
   pub tacit-closed : (κs : _) → Determines (tacit-closed.Post κs) (λ r s. both r (s .0 .now))
@@ -186,6 +212,7 @@ pub record AllDetermined : Type 0 where
   pub area : AreaDetermined
   pub lists : ListsDetermined
   pub message : MessageDetermined
+  pub wishes : WishesDetermined
   pub session : SessionDetermined
   pub records : RecordDetermined
   pub row : RowDetermined

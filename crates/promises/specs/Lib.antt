@@ -10,6 +10,7 @@ pub mod RowCondition3
 pub mod RowCalls
 pub mod RowRecords
 pub mod Why
+pub mod Wishes
 pub mod Examples
 pub mod RowExamples
 pub mod Determined

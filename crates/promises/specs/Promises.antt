@@ -19,6 +19,7 @@ use Rattle.promises.specs.RowCalls.{RowCallsAreEvents, RowCallsFollow, R
 use Rattle.promises.specs.RowRecords.{NarrowOverRows, RowIsRun, RowRecordsFollow}
 use Rattle.promises.specs.Examples.{Examples, WhyItStops, WhyAtThatMoment, FurtherKind}
 use Rattle.promises.specs.Why.{WhyNot}
+use Rattle.promises.specs.Wishes.{WishIsKept, WishReadAsMeant, SacIsWritten, SacReadAsMeant, WantedIsNotDisabled, WishesStay, WishesStaySound, WishesOfBoth}
 use Rattle.promises.specs.RowExamples.{RowExamples, WhyTheOneSession}
 use Rattle.promises.specs.Determined.{AllDetermined}
 
@@ -51,6 +52,15 @@ pub record Promises : Type 0 where
   pub found-or-told : FoundOrTold
   pub read-as-meant : ReadAsMeant
   pub condition-3 : Condition3
+  -- our wishes, beside the session
+  pub wish-is-kept : WishIsKept
+  pub wish-read-as-meant : WishReadAsMeant
+  pub sac-is-written : SacIsWritten
+  pub sac-read-as-meant : SacReadAsMeant
+  pub wanted-is-not-disabled : WantedIsNotDisabled
+  pub wishes-stay : WishesStay
+  pub wishes-stay-sound : WishesStaySound
+  pub wishes-of-both : WishesOfBoth
   -- records
   pub read-back : ReadBack
   pub stored-back : StoredBack

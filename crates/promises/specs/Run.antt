@@ -12,7 +12,7 @@ use Rattle.session.specs.declared.Session.{Session}
 use Rattle.session.specs.Session.{isReady, isOpen, sound}
 use Rattle.session.specs.With.{withEnabled}
 use Rattle.session.specs.Decisions.{outcomeMismatch, refused, Refused, Negotiate, settled}
-use Rattle.session.specs.Events.{checked, unlessRefused, afterInitialization, Event, Initialization, Capability, LocalChange, Mismatch, Hello, Closed, Unknown, step, run, roomAfter}
+use Rattle.session.specs.Events.{checked, unlessRefused, afterInitialization, Event, Initialization, Capability, LocalChange, Wish, Mismatch, Hello, Closed, Unknown, step, run, roomAfter}
 
 -- the session is Open after each of the events
 abbrev pub StaysOpen : Session → List Event → Type 0
@@ -51,6 +51,7 @@ abbrev pub enabledAfter : Session → Event → ℕ
 enabledAfter s (Initialization area belowLimit) = s .enabled
 enabledAfter s (Capability area) = s .enabled
 enabledAfter s (LocalChange n on room) = switched applicationCount (s .enabled) n on
+enabledAfter s (Wish wishes n disable room) = s .enabled
 enabledAfter s Mismatch = s .enabled
 enabledAfter s (Hello number) = s .enabled
 enabledAfter s Closed = s .enabled

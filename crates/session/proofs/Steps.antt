@@ -8,6 +8,7 @@ use native.Mathlib.Nat.{mod-lt}
 use native.Mathlib.Omega.{arith}
 use lib.Dec.{eqb, lit<}
 use lib.Pow.{pow-pos}
+use borrow.Author.Tests.{eqb-true}
 use Rattle.choice.specs.Pick.{pick}
 use Rattle.choice.proofs.Branch.{by-test, pick-both, taken, left}
 use Rattle.sets.specs.Set.{has, common, empty, minus}
@@ -18,13 +19,13 @@ use Rattle.kinds.specs.Kinds.{applicationCount, allApplications}
 use Rattle.area.specs.Area.{readArea}
 use Rattle.session.specs.declared.Session.{Session}
 use Rattle.session.specs.declared.After.{After}
-use Rattle.session.specs.Session.{isReady, isOpen, inForce, negotiated, nothingCommon, sound, Sound, Narrow, permitted}
+use Rattle.session.specs.Session.{stateReady, stateOpen, isReady, isOpen, inForce, negotiated, nothingCommon, sound, Sound, Narrow, permitted}
 use Rattle.session.specs.With.{withEnabled, mismatched}
 use Rattle.session.specs.Limits.{atLimit}
 use Rattle.session.specs.Decisions.{outcomeMismatch, outcomeAtLimit, refused, answered, Decision, Refused, Unchanged, Done, AsMismatch, Negotiate, Admit, Send, Tell, settled}
 use Rattle.session.specs.Events.{checked, unlessRefused, afterInitialization, onInitialization, onCapability, onLocalChange, onWish, onMismatch, onHello, onClosed, onUnknown, Event, Initialization, Capability, LocalChange, Wish, Mismatch, Hello, Closed, Unknown, Numbered, decision, step}
 use Rattle.session.proofs.SoundMeans.{sound-means, means-sound}
-use Rattle.session.proofs.Made.{ready-shut, mismatched-sound, mismatched-shut, next-sound, own-mismatched}
+use Rattle.session.proofs.Made.{never, ready-shut, mismatched-sound, mismatched-shut, next-sound, own-mismatched}
 use Rattle.session.proofs.View.{Makes, MakesFound, admits-opens, Facts, facts-of}
 
 -- ---- sound
@@ -201,6 +202,29 @@ initialization-unlimited s a belowLimit =
   where
     Same : Decision → Decision → Type 0
     Same c c′ = (settled s c .answer .outcome ≡ outcomeAtLimit → ⊥) → settled s c ≡ settled s c′
+
+-- an Initialization that opens the session was readable, and the session is the one that it makes
+pub opened-is : (s : Session) (a : List ℕ) (b : ℕ) → isReady s ≡ true → isOpen (step s (Initialization a b) .session) ≡ true
+    → (readArea a .refusal ≡ notRefused) × (step s (Initialization a b) .session ≡ afterInitialization s a (readArea a))
+unfolding onInitialization settled answered
+opened-is s a b ready =
+    by-test Opened (λ _. by-test Opened
+    (λ _. by-test Opened
+    (λ q. by-test Is (λ _ k. never k (mismatched-shut t)) (λ _. by-test Is (λ _ k. never k (mismatched-shut t)) (λ _ _. (eqb-true _ notRefused q, refl))))
+    (λ _. shut))
+    (λ _. shut)) (λ _. shut)
+  where
+    t : Session
+    t = afterInitialization s a (readArea a)
+
+    Is : After → Type 0
+    Is z = isOpen (z .session) ≡ true → (readArea a .refusal ≡ notRefused) × (z .session ≡ t)
+
+    Opened : Decision → Type 0
+    Opened c = Is (settled s c)
+
+    shut : isOpen s ≡ true → (readArea a .refusal ≡ notRefused) × (s ≡ t)
+    shut k = never k (ap (λ (n : ℕ). eqb n stateOpen) (eqb-true (s .state) stateReady ready))
 
 -- limits are asked of nothing but an Initialization in Ready
 pub not-ready : (s : Session) → isReady s ≡ false → (a : List ℕ) (b b′ : ℕ) → step s (Initialization a b) ≡ step s (Initialization a b′)

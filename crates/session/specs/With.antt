@@ -3,7 +3,7 @@ use Prim.Native.Nat.{ℕ, _+_, _%_, _^_}
 use mathlib.Core.Bool.{Bool}
 use Rattle.choice.specs.Pick.{pick}
 use Rattle.sets.specs.Set.{one, union, minus, switched}
-use Rattle.kinds.specs.Kinds.{applicationCount}
+use Rattle.kinds.specs.Kinds.{applicationCount, appCount}
 use Rattle.session.specs.declared.Session.{Session}
 use Rattle.session.specs.Session.{stateReady, stateHeld, stateGone, noState, isHeld, active, leavesGone, inForceBit, recordedBit, clearedOutOfOpen, clearedInGone}
 
@@ -86,6 +86,10 @@ withOtherEnabled s enabled next = withNext (withEnabled s enabled) next
 -- the application n in the peer's list, or not
 abbrev pub withListing : Session → ℕ → Bool → Session
 withListing s n on = withListed s (switched applicationCount (s .listed) n on)
+
+-- the App n disabled by the peer, or not
+abbrev pub withDisabling : Session → ℕ → Bool → Session
+withDisabling s n disable = withDisabled s (switched appCount (s .disabled) n disable)
 
 -- negotiation in force, with a list that starts empty and the application n in it, or not
 abbrev pub withFirstListing : Session → ℕ → Bool → Session

@@ -1,16 +1,18 @@
 -- A number of 1 to w switched on or off in a set: it is then in the set or not, every other stays as it was, and no bits come beyond the
 -- width. From the laws of one member more or less. Assumes nothing.
-use mathlib.Core.Path.{_≡_, refl, sym, ap, _∙_}
-use mathlib.Core.Bool.{Bool, true, false, true≢false, false≢true}
+use mathlib.Core.Path.{_≡_, refl, sym, ap, _∙_, subst}
+use mathlib.Core.Bool.{Bool, true, false, _&&_, and-false, true≢false, false≢true}
 use Prim.Native.Nat.{ℕ, _+_, _-_, _^_, _<_, _≤_}
+use native.Mathlib.Nat.{le-refl}
 use native.Mathlib.Omega.{arith}
 use native.Mathlib.Decide.{ℕ-discrete}
 use lib.Dec.{leb}
 use borrow.Author.Tests.{le-leb, leb-true}
 use Rattle.choice.specs.Pick.{pick}
 use Rattle.choice.proofs.Branch.{by-test, pick-true, pick-false, left}
-use Rattle.sets.specs.Set.{has, with, without, numbered, switched, Within}
-use Rattle.sets.proofs.Members.{has-with-same, has-with-other, has-without-same, has-without-other}
+use Rattle.choice.proofs.Tests.{and-where}
+use Rattle.sets.specs.Set.{has, with, without, numbered, holds, switched, Within}
+use Rattle.sets.proofs.Members.{ext, has-none, has-with-same, has-with-other, has-without-same, has-without-other}
 use Rattle.sets.proofs.Bounds.{with-lt, without-lt}
 
 pub numbered-is : (w n : ℕ) → numbered w n ≡ true → (1 ≤ n) × (n ≤ w)
@@ -52,6 +54,29 @@ module _ (w s n : ℕ) (on : Bool) where
     where
       small : ℕ → Type 0
       small x = x < 2 ^ v
+
+-- ---- said of the numbers: it holds as it was switched, and every other as before
+module _ (w s n : ℕ) (on : Bool) where
+  pub holds-same : numbered w n ≡ true → holds w (switched w s n on) n ≡ on
+  holds-same known =
+      let l = numbered-is w n known in
+      ap (λ (b : Bool). b && has (switched w s n on) (n - 1)) known ∙ switched-same w s n on (l .0) (l .1)
+
+  pub holds-other : (m : ℕ) → (m ≡ n → ⊥) → holds w (switched w s n on) m ≡ holds w s m
+  holds-other m ne = and-where (numbered w m) (λ known. let l = numbered-is w m known in switched-other w s n on (m - 1) (λ e. ne (omega arith)))
+
+pub holds-none : (w n : ℕ) → holds w 0 n ≡ false
+holds-none w n = ap (λ (b : Bool). numbered w n && b) (has-none (n - 1)) ∙ and-false (numbered w n)
+
+-- what is so already stays as it is
+pub switched-so : (w s n : ℕ) (on : Bool) → s < 2 ^ w → has s (n - 1) ≡ on → switched w s n on ≡ s
+switched-so w s n on small so = ext w (switched w s n on) s (switched-lt w s n on w (le-refl w) small) small (λ k l. go k l (ℕ-discrete n (k + 1)))
+  where
+    go : (k : ℕ) → k < w → Dec (n ≡ k + 1) → has (switched w s n on) k ≡ has s k
+    go k l (yes e) =
+        let place : n - 1 ≡ k = omega arith in
+        subst (λ (j : ℕ). has (switched w s n on) j ≡ has s j) place (switched-same w s n on (omega arith) (omega arith) ∙ sym so)
+    go k l (no e) = switched-other w s n on k e
 
 -- ---- what it keeps of one set inside another
 module _ (w n : ℕ) (on : Bool) (s k : ℕ) where

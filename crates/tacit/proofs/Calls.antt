@@ -3,12 +3,14 @@
 use mathlib.Core.Path.{_≡_}
 use lib.ListN.{length}
 use Rattle.kinds.specs.Kinds.{allApplications}
-use Rattle.session.specs.Events.{Initialization, Capability, LocalChange, Mismatch, Hello, Closed, step, roomAfter}
+use Rattle.wishes.specs.Wishes.{wishesAfter}
+use Rattle.session.specs.Events.{Initialization, Capability, LocalChange, Wish, Mismatch, Hello, Closed, step, roomAfter}
 use Rattle.record.specs.Record.{decoded}
 use Rattle.record.specs.Carried.{Carried}
 use Rattle.tacit.proofs.tacit_initialization.Reads as initialization
 use Rattle.tacit.proofs.tacit_capability.Reads as capability
 use Rattle.tacit.proofs.tacit_local_change.Reads as local-change
+use Rattle.tacit.proofs.tacit_wish.Reads as wish
 use Rattle.tacit.proofs.tacit_mismatch.Reads as mismatch
 use Rattle.tacit.proofs.tacit_hello.Reads as hello
 use Rattle.tacit.proofs.tacit_closed.Reads as closed
@@ -27,6 +29,17 @@ local-change-is κs a r s p = p .0
 pub local-change-room : (κs : _) (a r s : _) → local-change.Post κs a r s
     → s .1 .1 .1 .0 .now ≡ roomAfter (decoded (a .0 .now)) (LocalChange (a .1 .0) (a .1 .1 .0) (length (a .1 .1 .1 .0 .now))) (a .1 .1 .1 .0 .now)
 local-change-room κs a r s p = p .1
+
+pub wish-is : (κs : _) (a r s : _) → wish.Post κs a r s
+    → Carried (step (decoded (a .0 .now)) (Wish (a .1 .0) (a .1 .1 .0) (a .1 .1 .1 .0) (length (a .1 .1 .1 .1 .0 .now)))) (a .0 .now) (r .answer) (s .0 .now)
+wish-is κs a r s p = p .0
+
+pub wish-wishes : (κs : _) (a r s : _) → wish.Post κs a r s → r .wishes ≡ wishesAfter (a .1 .0) (a .1 .1 .0) (a .1 .1 .1 .0) (r .answer .refusal)
+wish-wishes κs a r s p = p .1 .0
+
+pub wish-room : (κs : _) (a r s : _) → wish.Post κs a r s
+    → s .1 .1 .1 .1 .0 .now ≡ roomAfter (decoded (a .0 .now)) (Wish (a .1 .0) (a .1 .1 .0) (a .1 .1 .1 .0) (length (a .1 .1 .1 .1 .0 .now))) (a .1 .1 .1 .1 .0 .now)
+wish-room κs a r s p = p .1 .1
 
 pub mismatch-is : (κs : _) (a r s : _) → mismatch.Post κs a r s → Carried (step (decoded (a .0 .now)) Mismatch) (a .0 .now) r (s .0 .now)
 mismatch-is κs a r s p = p

@@ -21,6 +21,8 @@ use Rattle.promises.proofs.RowRecords.{narrow-over-rows, row-is-run, ro
 use Rattle.promises.proofs.Examples.{examples, why-it-stops, why-at-that-moment, further-kind, row-examples, why-the-one-session}
 use Rattle.promises.proofs.Determined.{all-determined}
 use Rattle.promises.proofs.Why.{why-not}
+use Rattle.promises.proofs.Wishes.{wish-is-kept, wishes-stay, wishes-stay-sound, wishes-of-both}
+use Rattle.promises.proofs.WishesRead.{wish-read-as-meant, sac-is-written, sac-read-as-meant, wanted-is-not-disabled}
 use Rattle.promises.proofs.kept.Statement.{statement}
 use Rattle.promises.proofs.kept.Tie as tie
 
@@ -51,6 +53,14 @@ returns c =
       found-or-told = found-or-told;
       read-as-meant = read-as-meant;
       condition-3 = condition-3;
+      wish-is-kept = wish-is-kept;
+      wish-read-as-meant = wish-read-as-meant;
+      sac-is-written = sac-is-written;
+      sac-read-as-meant = sac-read-as-meant;
+      wanted-is-not-disabled = wanted-is-not-disabled;
+      wishes-stay = wishes-stay;
+      wishes-stay-sound = wishes-stay-sound;
+      wishes-of-both = wishes-of-both;
       read-back = read-back;
       stored-back = stored-back;
       records-follow = records-follow;

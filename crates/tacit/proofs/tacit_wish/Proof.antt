@@ -4,7 +4,7 @@ use mathlib.Core.Path.{sym, ap, _∙_}
 use Rattle.wishes.specs.Wishes.{wishesAfter}
 use Rattle.session.specs.declared.Answer.{Answer}
 use Rattle.session.specs.Events.{roomAfter}
-use Rattle.session.proofs.Kept.{wish-kept}
+use Rattle.session.proofs.Kept.{wish-about}
 use borrow.Author.Needs.{needs}
 use Rattle.tacit.proofs.tacit_wish.Statement.{statement}
 use Rattle.tacit.proofs.tacit_wish.Tie as tie
@@ -12,7 +12,7 @@ use Rattle.tacit.proofs.tacit_wish.Tie as tie
 after-requires : tie.Need-after-requires
 after-requires c κs =
     let event = c .before .before .before .before in
-    λ e. wish-kept _ _ _ _ _ (simp (event .wish .ensures) at e)
+    λ e. wish-about _ _ _ _ _ (simp (event .wish .ensures) at e) .kept
 
 returns : tie.Need-returns
 unfolding roomAfter

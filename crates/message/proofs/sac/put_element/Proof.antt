@@ -1,13 +1,11 @@
 -- `message::put_element` meets its contract: one octet, or none. Assumes nothing.
-use mathlib.Core.Path.{_≡_, refl, sym, ap, _∙_}
+use mathlib.Core.Path.{_≡_, refl, sym, _∙_}
 use mathlib.Core.Bool.{true}
-use mathlib.Core.List.{List, [], _∷_, _++_}
-use Prim.Native.Nat.{ℕ, _+_}
+use mathlib.Core.List.{[], _∷_}
+use Prim.Native.Nat.{_+_}
 use native.Mathlib.Omega.{arith}
-use lib.ListN.{take, drop, take-append-drop}
 use Rattle.choice.proofs.Branch.{taken, left}
-use Rattle.octets.specs.Octets.{overAt}
-use Rattle.octets.proofs.Front.{over-fits}
+use Rattle.octets.proofs.Front.{none-at}
 use Rattle.message.specs.Sac.{appElement, wishElement}
 use borrow.Author.Needs.{needs}
 use Rattle.message.proofs.sac.put_element.Statement.{statement}
@@ -20,16 +18,11 @@ returns c =
     let is : wishElement (a .wishes) (a .i) ≡ appElement (a .i + 1) true ∷ [] = taken _ _ (sym (element .before .before .has .ensures) ∙ element .before .if1 .taken) in
     rw is (refl, simp (element .app-element .ensures) at (c .before .before .put-at .ensures))
 
--- nothing put behind the first octets is nothing put
-none-behind : (n : ℕ) (l : List ℕ) → l ≡ overAt n [] l
-unfolding overAt
-none-behind n l = sym (ap (λ (r : List ℕ). take n l ++ r) (over-fits [] (drop n l) (omega arith)) ∙ take-append-drop n l)
-
 returns-2 : tie.Need-returns-2
 returns-2 c =
     let a = c .before .before .before .args in
     let is : wishElement (a .wishes) (a .i) ≡ [] = left _ _ (sym (c .before .has .ensures) ∙ c .if1 .left) in
-    rw is (omega arith, none-behind _ _)
+    rw is (omega arith, none-at _ _)
 
 pub put-element-spec : {M : Type 1} → statement M
 put-element-spec =
