@@ -14,7 +14,7 @@ use Rattle.sets.specs.Set.{empty}
 use Rattle.octets.specs.Octets.{topBit}
 use Rattle.kinds.specs.Kinds.{appCount}
 use Rattle.area.specs.Area.{uBit, sacType}
-use Rattle.area.specs.Tlvs.{Tlv, tlvHead, areaOf}
+use Rattle.area.specs.Tlvs.{tlvHead, areaOf}
 use Rattle.message.specs.Sac.{wishElement, wishElements, sacParts, wishTlv, sacFor, sacOctets}
 
 pub element-most : (wishes i : ℕ) → length (wishElement wishes i) ≤ 1

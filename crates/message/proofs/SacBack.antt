@@ -1,10 +1,10 @@
 -- Our SACs are read as we meant them. The last 6 octets of a wish are an area with one SAC and nothing else, whose element switches exactly that App; the
 -- SAC for an Initialization, from nothing disabled, disables exactly the wishes: after the elements of the first n places exactly the wishes below n
 -- are. Assumes nothing.
-use Prim.Native.Nat.{ℕ, zero, suc, _+_, _-_, _*_, _/_, _%_, _^_, _<_, _≤_}
+use Prim.Native.Nat.{ℕ, zero, suc, _+_, _-_, _*_, _%_, _^_, _<_, _≤_}
 use mathlib.Core.Path.{_≡_, refl, sym, ap, ap₂, _∙_, subst}
 use mathlib.Core.Bool.{Bool, true, false, not, _&&_, and-false}
-use mathlib.Core.List.{List, [], _∷_, _++_, append-nil}
+use mathlib.Core.List.{[], _∷_, _++_, append-nil}
 use native.Mathlib.Omega.{arith}
 use native.Mathlib.Decide.{ℕ-discrete}
 use lib.Dec.{ltb, lit<}
@@ -13,7 +13,6 @@ use borrow.Author.Tests.{le-leb, lt-leb, lt-ltb, le-ltb, ltb-true}
 use Rattle.choice.specs.Pick.{pick}
 use Rattle.choice.proofs.Branch.{by-test, left}
 use Rattle.choice.proofs.Tests.{same-test}
-use Rattle.octets.specs.Octets.{topBit, hasTopBit}
 use Rattle.sets.specs.Set.{has, switched}
 use Rattle.sets.proofs.Members.{has-none, ext}
 use Rattle.sets.proofs.Switches.{switched-same, switched-other}
@@ -21,10 +20,10 @@ use Rattle.kinds.specs.Kinds.{appCount}
 use Rattle.area.specs.declared.Reading.{Reading}
 use Rattle.area.specs.Found.{nothingFound, withSac}
 use Rattle.area.specs.Area.{headLength, at16, takeTlv, passOther, byType, tlvAt, readFrom, readArea, part}
-use Rattle.lists.specs.Sac.{dOf, appOf, idle, sacElement, sacAfter, sacList}
+use Rattle.lists.specs.Sac.{dOf, appOf, sacElement, sacAfter, sacList}
 use Rattle.lists.proofs.Later.{sac-behind, sac-list-lt}
 use Rattle.message.specs.declared.Message.the-variants.{Wish}
-use Rattle.message.specs.Sac.{appElement, sacValue, wishElement, wishElements}
+use Rattle.message.specs.Sac.{appElement, sacValue, wishElements}
 use Rattle.message.specs.Message.{messageHeadLength, oneApp, appOctets, wishOf, octetsOf, wishLength}
 
 -- ---- one element

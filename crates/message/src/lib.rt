@@ -88,9 +88,8 @@ fn one_element(n: u32, on: bool) -> [u8; 5]
 fn one_app(n: u32, disable: bool) -> [u8; 2]
     ensures { λ r. ⌜ r ≡ oneApp n disable ⌝ }
 {
-    let s = octets::top_bit(true);
     let element = sac::app_element(n, disable);
-    [s, element]
+    [octets::top_bit(true), element]
 }
 
 // Three parts, one behind the other. Without room for all of them nothing is written.

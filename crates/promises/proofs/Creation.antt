@@ -60,9 +60,9 @@ module _ (t : Settings) (small : t .«first_number» < 2 ^ 32) (l : List ℕ) wh
   leaves =
       by-test Leaves
       (λ h.
-          let rest = and-second (below kindCount (t .«protected_kinds»)) _ h in
-          fresh-leaves (below-lt kindCount (t .«protected_kinds») (and-first (below kindCount (t .«protected_kinds»)) _ h))
-          (below-lt applicationCount (t .enabled) (and-first (below applicationCount (t .enabled)) _ rest)) (and-second (below applicationCount (t .enabled)) _ rest))
+      let rest = and-second (below kindCount (t .«protected_kinds»)) _ h in
+      fresh-leaves (below-lt kindCount (t .«protected_kinds») (and-first (below kindCount (t .«protected_kinds»)) _ h))
+      (below-lt applicationCount (t .enabled) (and-first (below applicationCount (t .enabled)) _ rest)) (and-second (below applicationCount (t .enabled)) _ rest))
       (λ _. refused-leaves)
 
 pub creation-is-sound : CreationIsSound

@@ -1,4 +1,4 @@
--- The examples of sessions and of rows, and the counterexamples, hold: they are computed, with every definition unfolded. Assumes nothing.
+-- The examples of sessions, of wishes and of rows, and the counterexamples, hold: they are computed, with every definition unfolded. Assumes nothing.
 use mathlib.Core.Path.{refl}
 use Rattle.choice.specs.Pick.{pick}
 use Rattle.sets.specs.Set.{has, common, union, minus, with, without, empty, below, within, numbered, switched, chosen}
@@ -8,27 +8,30 @@ use Rattle.octets.specs.Octets.{over}
 use Rattle.area.specs.Area.{at16, takeTlv, passOther, byType, tlvAt, readFrom, readArea, part}
 use Rattle.lists.specs.Tac.{sBit, idAt, eAt, stood, after, tacList}
 use Rattle.lists.specs.Sac.{sacElement, sacAfter, sacList}
+use Rattle.message.specs.Sac.{wishElements, sacFor}
 use Rattle.message.specs.Message.{roomWith}
+use Rattle.wishes.specs.Wishes.{soundWishes, wishesAfter, wanted, wishSac, sacRoom}
 use Rattle.session.specs.Session.{nothingCommon, spareZero, forceSound, listedSound, openSound, helloSound, heldSound, goneSound, sound, permitted}
 use Rattle.session.specs.With.{mismatched, heldToReady}
 use Rattle.session.specs.Creation.{raised}
 use Rattle.session.specs.Limits.{used, atLimit}
 use Rattle.session.specs.Decisions.{answered, settled}
-use Rattle.session.specs.Events.{afterInitialization, onInitialization, listAfter, flagsAfter, afterCapability, onCapability, writing, onLocalChange, onHello, roomAfter}
+use Rattle.session.specs.Events.{afterInitialization, onInitialization, listAfter, flagsAfter, afterCapability, onCapability, writing, onLocalChange, telling, onWish, onHello, onClosed, roomAfter}
 use Rattle.row.specs.Limiting.{capped}
 use Rattle.row.specs.Events.{eventOf}
 use Rattle.session.proofs.View.{in-more}
 use Rattle.row.specs.Row.{count, belowLimit, allSound, eventAt}
 use Rattle.promises.specs.Examples.{Examples, WhyItStops, WhyAtThatMoment, FurtherKind}
 use Rattle.promises.specs.RowExamples.{RowExamples, WhyTheOneSession}
+use Rattle.promises.specs.WishExamples.{WishExamples}
 
-computed : Examples × (WhyItStops × (WhyAtThatMoment × (FurtherKind × (RowExamples × WhyTheOneSession))))
+computed : Examples × (WhyItStops × (WhyAtThatMoment × (FurtherKind × (RowExamples × (WhyTheOneSession × WishExamples)))))
 unfolding
     pick has common union minus with without empty below within numbered switched chosen isIn setOf opens controlled gather opened disables over at16 takeTlv
     passOther byType tlvAt readFrom readArea part sBit idAt eAt stood after tacList sacElement sacAfter sacList roomWith nothingCommon spareZero forceSound
     listedSound openSound helloSound heldSound goneSound sound permitted mismatched heldToReady raised used atLimit answered settled afterInitialization
     onInitialization listAfter flagsAfter afterCapability onCapability writing onLocalChange onHello roomAfter capped eventOf count belowLimit allSound
-    eventAt
+    eventAt wishElements sacFor soundWishes wishesAfter wanted wishSac sacRoom telling onWish onClosed
 computed = (
   record {
     one = refl;
@@ -72,7 +75,34 @@ computed = (
         },
         (
           record { two-open = refl; third = refl; third-ready = refl; fourth = refl; both = refl; passed = refl },
-          record { first-row = refl; second-row = refl },
+          (
+            record { first-row = refl; second-row = refl },
+            record {
+              told = refl;
+              taken-back = refl;
+              kept = refl;
+              spare = refl;
+              no-app = refl;
+              unchanged = refl;
+              ready = refl;
+              not-dynamic = refl;
+              thirteen = refl;
+              fourteen = refl;
+              two = refl;
+              none = refl;
+              no-room = refl;
+              empty-room = refl;
+              stays = refl;
+              opened = refl;
+              disabled = refl;
+              more = refl;
+              not-wanted = refl;
+              is-wanted = refl;
+              no-kind = refl;
+              unsound = refl;
+              outlives = refl;
+            },
+          ),
         ),
       ),
     ),
@@ -95,4 +125,7 @@ pub row-examples : RowExamples
 row-examples = computed .1 .1 .1 .1 .0
 
 pub why-the-one-session : WhyTheOneSession
-why-the-one-session = computed .1 .1 .1 .1 .1
+why-the-one-session = computed .1 .1 .1 .1 .1 .0
+
+pub wish-examples : WishExamples
+wish-examples = computed .1 .1 .1 .1 .1 .1

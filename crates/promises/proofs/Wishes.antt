@@ -1,7 +1,7 @@
 -- The wishes that are kept beside a session. A wish that is not refused switches its App alone; every other event leaves them, so over any run they stay but
 -- for wishes about that App; and two sessions alike but for the enabled applications refuse the same wishes. Assumes nothing.
-use Prim.Native.Nat.{ℕ, _-_, _^_, _<_}
-use mathlib.Core.Path.{_≡_, refl, sym, ap, ap₂, _∙_, subst}
+use Prim.Native.Nat.{ℕ, _-_}
+use mathlib.Core.Path.{_≡_, refl, sym, ap, _∙_, subst}
 use mathlib.Core.Bool.{Bool, true, false, _&&_, false≢true}
 use mathlib.Core.List.{List, [], _∷_}
 use native.Mathlib.Nat.{le-refl}
@@ -13,15 +13,15 @@ use Rattle.kinds.specs.Kinds.{appCount, knownApp}
 use Rattle.wishes.specs.Wishes.{soundWishes, wishesAfter}
 use Rattle.wishes.proofs.Few.{sound-few, few-sound}
 use Rattle.session.specs.declared.Session.{Session}
-use Rattle.session.specs.Session.{isOpen, Sound}
+use Rattle.session.specs.Session.{Sound}
 use Rattle.session.specs.With.{withOtherEnabled}
 use Rattle.session.specs.Events.{same, Event, Initialization, Capability, LocalChange, Wish, Mismatch, Hello, Closed, Unknown, step}
 use Rattle.session.proofs.Alike.{Alike}
-use Rattle.session.proofs.Kept.{AboutApp, wish-about, wish-done, wish-so, refused-alike}
+use Rattle.session.proofs.Kept.{wish-about, wish-done, wish-so, refused-alike}
 use Rattle.session.proofs.Steps.{step-sound}
 use Rattle.session.proofs.SoundMeans.{sound-means}
 use Rattle.promises.specs.Run.{StaysOpen}
-use Rattle.promises.specs.Wishes.{wishesBy, Kept, WishIsKept, keptAfter, keptRun, OfWish, Handed, NotAbout, WishesStay, WishesStaySound, SameWishes, WishesOfBoth}
+use Rattle.promises.specs.Wishes.{wishesBy, WishIsKept, keptAfter, keptRun, OfWish, Handed, WishesStay, WishesStaySound, SameWishes, WishesOfBoth}
 use Rattle.promises.proofs.Condition3.{alike-step, ready-alike}
 
 -- ---- one wish

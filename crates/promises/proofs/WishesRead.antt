@@ -1,9 +1,9 @@
 -- What the other end makes of our wishes. The last 6 octets of a message that was written are a SAC of one element, which switches that App there and
 -- touches nothing else. An Initialization that opens a session found our SAC among its TLVs, and its elements disable exactly the wishes. So whoever has
 -- read all of it has exactly our wishes disabled. Assumes nothing.
-use Prim.Native.Nat.{ℕ, _<_, _≤_, _^_}
+use Prim.Native.Nat.{ℕ}
 use mathlib.Core.Path.{_≡_, refl, sym, ap, ap₂, _∙_, subst}
-use mathlib.Core.Bool.{Bool, true, false, _&&_, and-false, true≢false, false≢true}
+use mathlib.Core.Bool.{Bool, true, false, and-false, true≢false}
 use mathlib.Core.Logic.{_↔_}
 use mathlib.Core.List.{List, [], _∷_, _++_}
 use native.Mathlib.Omega.{arith}
@@ -26,7 +26,7 @@ use Rattle.area.specs.Area.{sacType, readArea, part}
 use Rattle.area.specs.Tlvs.{Tlv, areaOf, Wide, Without}
 use Rattle.area.proofs.Slots.{sac-found, sac-absent}
 use Rattle.lists.specs.Sac.{sacAfter, sacList}
-use Rattle.message.specs.Sac.{sacValue, wishElements, wishTlv, sacFor, sacOctets}
+use Rattle.message.specs.Sac.{wishTlv, sacFor, sacOctets}
 use Rattle.message.specs.Message.{messageHeadLength, appOctets, wishOf, wishLength, roomWith}
 use Rattle.message.proofs.SacBack.{oneSac, last-six, sac-read-back, sac-value-back, app-list-back, wishes-back}
 use Rattle.wishes.specs.declared.Written.{Written}
@@ -34,16 +34,15 @@ use Rattle.wishes.specs.Wishes.{soundWishes, wishesAfter, wanted, unwritten, wi
 use Rattle.wishes.proofs.Few.{sound-few}
 use Rattle.session.specs.declared.Session.{Session}
 use Rattle.session.specs.declared.After.{After}
-use Rattle.session.specs.Session.{isReady, isOpen, usesTac, nothingCommon, sound}
+use Rattle.session.specs.Session.{isOpen, usesTac, nothingCommon, sound}
 use Rattle.session.specs.With.{withFlags, withDisabled, withListed, withDisabling}
 use Rattle.session.specs.Decisions.{answered, Done, Negotiate, settled}
-use Rattle.session.specs.Events.{unlessRefused, takesTac, flagsAfter, listAfter, afterInitialization, afterCapability, onCapability, Initialization, Capability, Wish, step, roomAfter}
+use Rattle.session.specs.Events.{unlessRefused, takesTac, afterInitialization, afterCapability, onCapability, Capability, step, roomAfter}
 use Rattle.session.proofs.SoundMeans.{sound-means}
 use Rattle.session.proofs.Made.{sound-common}
 use Rattle.session.proofs.Kept.{wish-about, wish-wrote}
 use Rattle.session.proofs.Steps.{opened-is}
-use Rattle.promises.specs.Words.{Disables}
-use Rattle.promises.specs.Wishes.{answerTo, wishesBy, areaOfWish, ExactlyThatApp, WishReadAsMeant, SacWritten, SacIsWritten, SacReadAsMeant, HasRead, opened, told, since, WantedIsNotDisabled}
+use Rattle.promises.specs.Wishes.{answerTo, areaOfWish, WishReadAsMeant, SacWritten, SacIsWritten, SacReadAsMeant, HasRead, opened, told, since, WantedIsNotDisabled}
 use Rattle.promises.proofs.Wishes.{after-sound}
 
 -- ---- the message of a wish

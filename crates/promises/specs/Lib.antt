@@ -13,5 +13,6 @@ pub mod Why
 pub mod Wishes
 pub mod Examples
 pub mod RowExamples
+pub mod WishExamples
 pub mod Determined
 pub mod Promises

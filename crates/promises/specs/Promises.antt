@@ -21,6 +21,7 @@ use Rattle.promises.specs.Examples.{Examples, WhyItStops, WhyAtThatMomen
 use Rattle.promises.specs.Why.{WhyNot}
 use Rattle.promises.specs.Wishes.{WishIsKept, WishReadAsMeant, SacIsWritten, SacReadAsMeant, WantedIsNotDisabled, WishesStay, WishesStaySound, WishesOfBoth}
 use Rattle.promises.specs.RowExamples.{RowExamples, WhyTheOneSession}
+use Rattle.promises.specs.WishExamples.{WishExamples}
 use Rattle.promises.specs.Determined.{AllDetermined}
 
 pub record Promises : Type 0 where
@@ -97,5 +98,6 @@ pub record Promises : Type 0 where
   pub why-it-stops : WhyItStops
   pub why-at-that-moment : WhyAtThatMoment
   pub further-kind : FurtherKind
+  pub wish-examples : WishExamples
   pub row-examples : RowExamples
   pub why-the-one-session : WhyTheOneSession

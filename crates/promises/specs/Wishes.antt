@@ -19,7 +19,7 @@ use Rattle.session.specs.declared.Answer.{Answer}
 use Rattle.session.specs.Session.{isReady, isOpen, sound}
 use Rattle.session.specs.With.{withDisabling}
 use Rattle.session.specs.Decisions.{outcomeDone, outcomeUnchanged, Done, settled}
-use Rattle.session.specs.Events.{Event, Initialization, Capability, LocalChange, Wish, Mismatch, Hello, Closed, Unknown, step, run, roomAfter}
+use Rattle.session.specs.Events.{Event, Initialization, Capability, LocalChange, Wish, Mismatch, Hello, Closed, Unknown, step, roomAfter}
 use Rattle.promises.specs.Words.{Disables}
 use Rattle.promises.specs.Run.{StaysOpen}
 use Rattle.promises.specs.Condition3.{ReadyPair}

@@ -1,6 +1,6 @@
 -- Sound wishes are a set of the four Apps, and their SAC has nine octets at the most. Assumes nothing.
-use Prim.Native.Nat.{ℕ, _+_, _^_, _<_, _≤_}
-use mathlib.Core.Path.{_≡_, ap, _∙_}
+use Prim.Native.Nat.{ℕ, _^_, _<_, _≤_}
+use mathlib.Core.Path.{_≡_, ap}
 use mathlib.Core.Bool.{Bool, true, false}
 use mathlib.Core.Path.{refl}
 use native.Mathlib.Omega.{arith}
@@ -8,7 +8,7 @@ use lib.ListN.{length}
 use Rattle.sets.specs.Set.{empty}
 use Rattle.sets.proofs.Bounds.{below-lt, lt-below}
 use Rattle.kinds.specs.Kinds.{appCount}
-use Rattle.message.specs.Sac.{wishElements, sacOctets}
+use Rattle.message.specs.Sac.{sacOctets}
 use Rattle.message.proofs.Elements.{elements-most, sac-none, sac-parts}
 use Rattle.wishes.specs.Wishes.{soundWishes}
 

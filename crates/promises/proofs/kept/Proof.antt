@@ -18,7 +18,7 @@ use Rattle.promises.proofs.Limits.{limit-is-mismatch, limits-decide, ba
 use Rattle.promises.proofs.RowCondition3.{row-condition-3}
 use Rattle.promises.proofs.RowCalls.{row-calls-are-events, row-calls-follow, row-calls-condition-3}
 use Rattle.promises.proofs.RowRecords.{narrow-over-rows, row-is-run, row-records-follow}
-use Rattle.promises.proofs.Examples.{examples, why-it-stops, why-at-that-moment, further-kind, row-examples, why-the-one-session}
+use Rattle.promises.proofs.Examples.{examples, why-it-stops, why-at-that-moment, further-kind, row-examples, why-the-one-session, wish-examples}
 use Rattle.promises.proofs.Determined.{all-determined}
 use Rattle.promises.proofs.Why.{why-not}
 use Rattle.promises.proofs.Wishes.{wish-is-kept, wishes-stay, wishes-stay-sound, wishes-of-both}
@@ -94,6 +94,7 @@ returns c =
       why-it-stops = why-it-stops;
       why-at-that-moment = why-at-that-moment;
       further-kind = further-kind;
+      wish-examples = wish-examples;
       row-examples = row-examples;
       why-the-one-session = why-the-one-session;
     }

@@ -1,5 +1,5 @@
 -- `message::elements_count` meets its contract. The loop's invariant: n is how many elements the first i places have. Assumes nothing.
-use Prim.Native.Nat.{_+_, _-_, _≤_}
+use Prim.Native.Nat.{_-_, _≤_}
 use mathlib.Core.Path.{_≡_, refl}
 use native.Mathlib.Omega.{arith}
 use lib.ListN.{length, length-append}

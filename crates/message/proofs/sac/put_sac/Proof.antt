@@ -1,12 +1,12 @@
 -- `message::put_sac` meets its contract: one part stands behind the other. Assumes nothing.
-use Prim.Native.Nat.{ℕ, _+_, _≤_}
-use mathlib.Core.Path.{_≡_, refl, ap, _∙_}
+use Prim.Native.Nat.{ℕ, _+_}
+use mathlib.Core.Path.{refl, ap, _∙_}
 use mathlib.Core.Bool.{true}
 use mathlib.Core.List.{List, [], _∷_, _++_}
 use native.Mathlib.Omega.{arith}
 use lib.ListN.{length}
 use Rattle.kinds.specs.Kinds.{appCount}
-use Rattle.octets.specs.Octets.{topBit, over, overAt}
+use Rattle.octets.specs.Octets.{topBit, over}
 use Rattle.octets.proofs.Front.{then}
 use Rattle.area.specs.Area.{uBit, sacType}
 use Rattle.area.specs.Tlvs.{tlvHead}

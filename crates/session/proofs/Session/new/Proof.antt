@@ -1,6 +1,5 @@
 -- `Session::new` meets its contract: within its limits each set fits 16 bits. Assumes nothing.
 use Prim.Native.Nat.{_^_}
-use mathlib.Core.Bool.{_&&_}
 use native.Mathlib.Omega.{arith}
 use lib.Dec.{ltb}
 use borrow.Author.Tests.{ltb-true}
