@@ -99,7 +99,8 @@ enum tacit_refusal {
                                        U is 0, and it is not in 0x0500 to 0x05FF */
     TACIT_REFUSED_REPEATED    = 5,  /* TAC, SAC or Dynamic stands there twice */
     TACIT_REFUSED_NUMBER      = 6,  /* not a TA-Id (1 to 13), not a kind (0 to 9), or a set
-                                       with a bit that is none of these */
+                                       with a bit that is none of these; at creation,
+                                       wishes with a bit that is no App's */
     TACIT_REFUSED_STATE       = 7,  /* the event is not for the state of the session */
     TACIT_REFUSED_ROOM        = 8,  /* there is something to write, and fewer octets of room
                                        than it has: 17 for a local change, 14 for a
