@@ -108,7 +108,7 @@ mutants: $(library)
 	@$(here) tests/mutants/run --calls $(CALLS) --seed $(SEED) $(MUTANTS)
 
 # For the gate: one rule of each part, and one fault of the library.
-few := area-3-before-5 tac-by-position permitted-despite-sac change-9-not-asked at-limit-never \
+few := area-3-before-5 tac-by-position permitted-despite-sac change-9-not-asked at-limit-never wish-7-before-unchanged \
        record-lists-swapped row-another-touched library-writes-behind
 mutants-few: $(library)
 	@$(here) tests/mutants/run --calls 100000 --seed $(SEED) $(few)

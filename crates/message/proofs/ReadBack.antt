@@ -3,36 +3,29 @@
 use Prim.Native.Nat.{ℕ, _<_}
 use mathlib.Core.Path.{_≡_, refl, ap₂}
 use mathlib.Core.Bool.{Bool, true, false}
-use lib.ListN.{length, drop}
+use mathlib.Core.List.{List}
+use lib.ListN.{drop}
 use Rattle.choice.specs.Pick.{pick}
 use Rattle.octets.proofs.Numbers.{forth16, top-back}
 use Rattle.sets.specs.Set.{switched}
 use Rattle.kinds.specs.Kinds.{applicationCount}
 use Rattle.area.specs.declared.Reading.{Reading}
 use Rattle.area.specs.Found.{nothingFound, withTac}
-use Rattle.area.specs.Area.{headLength, at16, takeTlv, passOther, byType, tlvAt, readFrom, readArea, part}
+use Rattle.area.specs.Area.{headLength, at16, takeTlv, passOther, byType, tlvAt, readFrom, readArea}
 use Rattle.lists.specs.Tac.{sBit, idAt, eAt, stood, after, tacList}
-use Rattle.message.specs.declared.Message.the-variants.{Change}
-use Rattle.message.specs.Message.{messageHeadLength, oneElement, tacOctets, messageOf, octetsOf, changeLength}
+use Rattle.message.specs.Message.{messageHeadLength, oneTlv, capabilityWith, oneElement, tacOctets}
 
 -- the reading of such an area: a TAC of 5 octets from the fifth on, and nothing else
 abbrev pub oneTac : Reading
 oneTac = withTac (record { start = headLength; len = 5 }) nothingFound
 
-module _ (number n : ℕ) (on : Bool) where
-  pub change-length : length (octetsOf (Change number n on)) ≡ changeLength
-  change-length = refl
+-- behind its head a Capability message of one TLV is the area of that TLV
+pub area-back : (number type : ℕ) (value : List ℕ) → drop messageHeadLength (capabilityWith number type value) ≡ oneTlv type value
+area-back number type value = refl
 
-  pub last-nine : drop messageHeadLength (messageOf number n on) ≡ tacOctets n on
-  last-nine = refl
-
-  pub read-back : readArea (tacOctets n on) ≡ oneTac
-  unfolding pick at16 takeTlv passOther byType tlvAt readFrom readArea
-  read-back = refl
-
-  pub value-back : part (tacOctets n on) (oneTac .tac) ≡ oneElement n on
-  unfolding part
-  value-back = refl
+pub read-back : (n : ℕ) (on : Bool) → readArea (tacOctets n on) ≡ oneTac
+unfolding pick at16 takeTlv passOther byType tlvAt readFrom readArea
+read-back n on = refl
 
 pub s-back : (n : ℕ) (on : Bool) → sBit (oneElement n on) ≡ true
 unfolding sBit pick

@@ -8,7 +8,6 @@ use mathlib.Core.List.{[], _∷_, _++_, append-nil}
 use native.Mathlib.Omega.{arith}
 use native.Mathlib.Decide.{ℕ-discrete}
 use lib.Dec.{ltb, lit<}
-use lib.ListN.{length, drop}
 use borrow.Author.Tests.{le-leb, lt-leb, lt-ltb, le-ltb, ltb-true}
 use Rattle.choice.specs.Pick.{pick}
 use Rattle.choice.proofs.Branch.{by-test, left}
@@ -22,9 +21,8 @@ use Rattle.area.specs.Found.{nothingFound, withSac}
 use Rattle.area.specs.Area.{headLength, at16, takeTlv, passOther, byType, tlvAt, readFrom, readArea, part}
 use Rattle.lists.specs.Sac.{dOf, appOf, sacElement, sacAfter, sacList}
 use Rattle.lists.proofs.Later.{sac-behind, sac-list-lt}
-use Rattle.message.specs.declared.Message.the-variants.{Wish}
 use Rattle.message.specs.Sac.{appElement, sacValue, wishElements}
-use Rattle.message.specs.Message.{messageHeadLength, oneApp, appOctets, wishOf, octetsOf, wishLength}
+use Rattle.message.specs.Message.{oneApp, appOctets}
 
 -- ---- one element
 d-back : (n : ℕ) (disable : Bool) → dOf (appElement n disable) ≡ disable
@@ -49,20 +47,13 @@ element-back opening s n disable h acts =
 abbrev pub oneSac : Reading
 oneSac = withSac (record { start = headLength; len = 2 }) nothingFound
 
-module _ (number n : ℕ) (disable : Bool) where
-  pub wish-length : length (octetsOf (Wish number n disable)) ≡ wishLength
-  wish-length = refl
+pub sac-read-back : (n : ℕ) (disable : Bool) → readArea (appOctets n disable) ≡ oneSac
+unfolding pick at16 takeTlv passOther byType tlvAt readFrom readArea
+sac-read-back n disable = refl
 
-  pub last-six : drop messageHeadLength (wishOf number n disable) ≡ appOctets n disable
-  last-six = refl
-
-  pub sac-read-back : readArea (appOctets n disable) ≡ oneSac
-  unfolding pick at16 takeTlv passOther byType tlvAt readFrom readArea
-  sac-read-back = refl
-
-  pub sac-value-back : part (appOctets n disable) (oneSac .sac) ≡ oneApp n disable
-  unfolding part
-  sac-value-back = refl
+pub sac-value-back : (n : ℕ) (disable : Bool) → part (appOctets n disable) (oneSac .sac) ≡ oneApp n disable
+unfolding part
+sac-value-back n disable = refl
 
 pub app-list-back : (n : ℕ) (disable : Bool) (s : ℕ) → n < 8 → sacList (oneApp n disable) false s ≡ switched appCount s n disable
 unfolding sacList sacAfter

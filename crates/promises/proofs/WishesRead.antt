@@ -27,8 +27,9 @@ use Rattle.area.specs.Tlvs.{Tlv, areaOf, Wide, Without}
 use Rattle.area.proofs.Slots.{sac-found, sac-absent}
 use Rattle.lists.specs.Sac.{sacAfter, sacList}
 use Rattle.message.specs.Sac.{wishTlv, sacFor, sacOctets}
-use Rattle.message.specs.Message.{messageHeadLength, appOctets, wishOf, wishLength, roomWith}
-use Rattle.message.proofs.SacBack.{oneSac, last-six, sac-read-back, sac-value-back, app-list-back, wishes-back}
+use Rattle.message.specs.Message.{messageHeadLength, oneApp, appOctets, wishOf, wishLength, roomWith}
+use Rattle.message.proofs.ReadBack.{area-back}
+use Rattle.message.proofs.SacBack.{oneSac, sac-read-back, sac-value-back, app-list-back, wishes-back}
 use Rattle.wishes.specs.declared.Written.{Written}
 use Rattle.wishes.specs.Wishes.{soundWishes, wishesAfter, wanted, unwritten, wishSac, sacRoom}
 use Rattle.wishes.proofs.Few.{sound-few}
@@ -53,7 +54,7 @@ area-of s wishes n disable room w =
     ap (λ (l : List ℕ). drop messageHeadLength (take wishLength l))
     (taken _ _ (ap (λ (x : ℕ). ltb 0 x) w) ∙ taken _ _ (le-leb wishLength (length room) (wish-wrote s wishes n disable (length room) w .1)))
     ∙ ap (λ (l : List ℕ). drop messageHeadLength l) (take-append-seam (wishOf (s .next) n disable) (drop wishLength room))
-    ∙ last-six (s .next) n disable
+    ∙ area-back (s .next) sacType (oneApp n disable)
 
 module _ (t : Session) (is-sound : sound t ≡ true) (is-open : isOpen t ≡ true) (n : ℕ) (disable : Bool) (known : knownApp n ≡ true) where
   no-tac : takesTac t oneSac ≡ false
@@ -64,7 +65,7 @@ module _ (t : Session) (is-sound : sound t ≡ true) (is-open : isOpen t ≡ tru
   unfolding afterCapability
   after-is =
       let k = numbered-is appCount n known in
-      let list = ap (λ (v : List ℕ). sacList v false (t .disabled)) (sac-value-back 0 n disable) ∙ app-list-back n disable (t .disabled) (omega arith) in
+      let list = ap (λ (v : List ℕ). sacList v false (t .disabled)) (sac-value-back n disable) ∙ app-list-back n disable (t .disabled) (omega arith) in
       ap₂ (λ (f l : ℕ). withListed (withDisabled (withFlags t f) (sacList (part (appOctets n disable) (oneSac .sac)) false (t .disabled))) l) (left _ _ no-tac) (left _ _ no-tac)
       ∙ ap (withDisabled t) list
 
@@ -78,7 +79,7 @@ module _ (t : Session) (is-sound : sound t ≡ true) (is-open : isOpen t ≡ tru
   event-is =
       ap (settled t)
       (taken _ _ is-sound ∙ taken _ _ is-open
-      ∙ ap (λ (r : Reading). unlessRefused r (Negotiate (afterCapability t (appOctets n disable) r))) (sac-read-back 0 n disable)
+      ∙ ap (λ (r : Reading). unlessRefused r (Negotiate (afterCapability t (appOctets n disable) r))) (sac-read-back n disable)
       ∙ taken _ _ refl
       ∙ ap Negotiate after-is)
       ∙ settles

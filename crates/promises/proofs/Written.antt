@@ -19,10 +19,10 @@ use Rattle.sets.proofs.Switches.{numbered-is, holds-same, holds-other, holds-no
 use Rattle.kinds.specs.Kinds.{applicationCount, knownApplication, isIn}
 use Rattle.octets.specs.Octets.{over}
 use Rattle.area.specs.declared.Reading.{Reading}
-use Rattle.area.specs.Area.{part}
+use Rattle.area.specs.Area.{tacType, part}
 use Rattle.lists.specs.Sac.{sacAfter, sacList}
 use Rattle.message.specs.Message.{messageHeadLength, oneElement, tacOctets, messageOf, changeLength, roomWith}
-use Rattle.message.proofs.ReadBack.{oneTac, last-nine, read-back, s-back, list-back}
+use Rattle.message.proofs.ReadBack.{oneTac, area-back, read-back, s-back, list-back}
 use Rattle.session.specs.declared.Session.{Session}
 use Rattle.session.specs.declared.After.{After}
 use Rattle.session.specs.Session.{usesTac, inForce, inForceBit, flagCount, sound}
@@ -73,7 +73,7 @@ area-of s n on room w =
     ap (λ (l : List ℕ). drop messageHeadLength (take changeLength l))
     (taken _ _ (ap (λ (x : ℕ). ltb 0 x) w) ∙ taken _ _ (le-leb changeLength (length room) (wrote s n on (length room) w .enough)))
     ∙ ap (λ (l : List ℕ). drop messageHeadLength l) (take-append-seam (messageOf (s .next) n on) (drop changeLength room))
-    ∙ last-nine (s .next) n on
+    ∙ area-back (s .next) tacType (oneElement n on)
 
 -- ---- a set of applications with one of them switched
 that : (l n : ℕ) (on : Bool) → knownApplication n ≡ true → isIn (switched applicationCount l n on) n ≡ on
@@ -113,7 +113,7 @@ module _ (t : Session) (o : OtherEnd t) (n : ℕ) (on : Bool) (known : knownAppl
   event-is =
       ap (settled t)
       (taken _ _ (o .is-sound) ∙ taken _ _ (o .is-open)
-      ∙ ap (λ (r : Reading). unlessRefused r (Negotiate (afterCapability t (tacOctets n on) r))) (read-back 0 n on)
+      ∙ ap (λ (r : Reading). unlessRefused r (Negotiate (afterCapability t (tacOctets n on) r))) (read-back n on)
       ∙ taken _ _ refl
       ∙ ap Negotiate after-is)
 
