@@ -11,7 +11,9 @@ use Rattle.choice.specs.Pick.{pick}
 use Rattle.choice.proofs.Branch.{taken}
 use Rattle.sets.specs.Set.{has}
 use Rattle.kinds.specs.Kinds.{allApplications}
+use Rattle.wishes.specs.Wishes.{wishesAfter}
 use Rattle.session.specs.declared.Session.{Session}
+use Rattle.session.specs.declared.Answer.{Answer}
 use Rattle.session.specs.Session.{isOpen, sound, permitted}
 use Rattle.session.specs.Questions.{permission}
 use Rattle.session.specs.Events.{Event, Initialization, step, run}
@@ -79,7 +81,7 @@ calls-answer =
       tacit-permitted = λ κs a r s p. p;
       tacit-permitted-kinds = λ κs a r s p. p;
       tacit-why-not = λ κs a r s p. p;
-      tacit-wish = wish-wishes;
+      tacit-wish = λ κs a r s p. wish-wishes κs a r s p ∙ ap (λ (b : Answer). wishesAfter (a .1 .0) (a .1 .1 .0) (a .1 .1 .1 .0) (b .refusal)) (wish-is κs a r s p .answer);
       tacit-wish-sac = λ κs a r s p. p;
       tacit-wanted = λ a r s p. p;
       tacit-retry-interval = λ κs a r s p. p;

@@ -10,7 +10,7 @@ use Rattle.refusals.specs.Refusals.{notRefused}
 use Rattle.kinds.specs.Kinds.{kindCount, allApplications}
 use Rattle.session.specs.declared.Answer.{Answer}
 use Rattle.session.specs.Session.{isOpen, sound}
-use Rattle.wishes.specs.Wishes.{soundWishes, wishesAfter, wanted, wishSac, sacRoom}
+use Rattle.wishes.specs.Wishes.{soundWishes, wanted, wishSac, sacRoom}
 use Rattle.session.specs.Creation.{freshBy, created}
 use Rattle.session.specs.Events.{Event, Initialization, Capability, LocalChange, Wish, Mismatch, Hello, Closed, step, run, roomAfter}
 use Rattle.session.specs.Questions.{permission, permittedKinds, whyNot, retryInterval}
@@ -45,6 +45,7 @@ use Rattle.promises.specs.Walked.{RowCount}
 use Rattle.promises.specs.Words.{Permits}
 use Rattle.promises.specs.Records.{Octets, AllNumbered}
 use Rattle.promises.specs.Condition3.{ReadyPair, NeverLess}
+use Rattle.promises.specs.Wishes.{wishesBy}
 
 -- ---- the calls that are an event
 -- by its contract the C call for the event, handed the record l, may answer r and leave the record l′. In a call κs are the lifetimes of what is lent, a what
@@ -98,7 +99,8 @@ pub record CallsAnswer : Type 0 where
   pub tacit-permitted : (κs : _) (a r s : _) → permitted.Post κs a r s → r ≡ permission (decoded (a .0 .now)) (a .1 .0)
   pub tacit-permitted-kinds : (κs : _) (a r s : _) → permitted-kinds.Post κs a r s → r ≡ permittedKinds (decoded (a .0 .now))
   pub tacit-why-not : (κs : _) (a r s : _) → why-not.Post κs a r s → r ≡ whyNot (decoded (a .0 .now)) (a .1 .0)
-  pub tacit-wish : (κs : _) (a r s : _) → wish.Post κs a r s → r .wishes ≡ wishesAfter (a .1 .0) (a .1 .1 .0) (a .1 .1 .1 .0) (r .answer .refusal)
+  -- of a wish, which is an event, the wishes to keep after it
+  pub tacit-wish : (κs : _) (a r s : _) → wish.Post κs a r s → r .wishes ≡ wishesBy (decoded (a .0 .now)) (a .1 .0) (a .1 .1 .0) (a .1 .1 .1 .0) (length (a .1 .1 .1 .1 .0 .now))
   pub tacit-wish-sac : (κs : _) (a r s : _) → wish-sac.Post κs a r s
       → (r ≡ wishSac (a .0) (length (a .1 .0 .now))) × (s .1 .0 .now ≡ sacRoom (a .0) (a .1 .0 .now))
   pub tacit-wanted : (a r s : _) → is-wanted.Post tt a r s → r ≡ wanted (a .0) (a .1 .0)

@@ -4,13 +4,13 @@ pub mod Condition3
 pub mod Written
 pub mod Records
 pub mod Walked
+pub mod Wishes
 pub mod Calls
 pub mod Rows
 pub mod RowCondition3
 pub mod RowCalls
 pub mod RowRecords
 pub mod Why
-pub mod Wishes
 pub mod Examples
 pub mod RowExamples
 pub mod WishExamples
