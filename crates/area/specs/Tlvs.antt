@@ -9,12 +9,16 @@ use Rattle.refusals.specs.Refusals.{notRefused}
 use Rattle.octets.specs.Octets.{be16}
 use Rattle.area.specs.declared.Reading.{Reading}
 use Rattle.area.specs.Found.{nothingFound}
-use Rattle.area.specs.Area.{areaMost, headLength, typeOf, byType, readArea}
+use Rattle.area.specs.Area.{areaMost, headLength, uBit, typeOf, byType, readArea}
 
 -- a TLV: its first 16 bits, and its value
 pub record Tlv : Type 0 where
   pub head : ℕ
   pub value : List ℕ
+
+-- one that we write: "their U and F bits .. are written as 1 and 0"
+abbrev pub ours : ℕ → List ℕ → Tlv
+ours type value = record { head = uBit + type; value = value }
 
 -- what stands before its value, and the whole
 abbrev pub tlvHead : ℕ → ℕ → List ℕ

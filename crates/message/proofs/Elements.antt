@@ -1,5 +1,5 @@
--- The elements of the SAC for an Initialization, one place of the wishes after another: at the most one for each, and behind those before it. And the
--- SAC in its parts. Assumes nothing.
+-- The elements of the SAC for an Initialization, one place of the wishes after another: at the most one for each, and behind those before it. And
+-- the SAC: none, or one TLV. Assumes nothing.
 use Prim.Native.Nat.{ℕ, zero, suc, _+_, _<_, _≤_}
 use mathlib.Core.Path.{_≡_, ap, _∙_}
 use mathlib.Core.Bool.{true, false}
@@ -11,11 +11,8 @@ use lib.Dec.{lit≤}
 use lib.ListN.{length, length-append}
 use Rattle.choice.proofs.Branch.{by-test, taken, left}
 use Rattle.sets.specs.Set.{empty}
-use Rattle.octets.specs.Octets.{topBit}
-use Rattle.kinds.specs.Kinds.{appCount}
-use Rattle.area.specs.Area.{uBit, sacType}
-use Rattle.area.specs.Tlvs.{tlvHead, areaOf}
-use Rattle.message.specs.Sac.{wishElement, wishElements, sacParts, wishTlv, sacFor, sacOctets}
+use Rattle.area.specs.Tlvs.{tlvOctets, areaOf}
+use Rattle.message.specs.Sac.{wishElement, wishElements, wishTlv, sacFor, sacOctets}
 
 pub element-most : (wishes i : ℕ) → length (wishElement wishes i) ≤ 1
 element-most wishes i = by-test (λ (l : List ℕ). length l ≤ 1) (λ _. lit≤ tt) (λ _. lit≤ tt)
@@ -46,11 +43,6 @@ pub sac-none : (wishes : ℕ) → empty wishes ≡ true → sacOctets wishes ≡
 unfolding sacFor
 sac-none wishes none = ap areaOf (taken [] (wishTlv wishes ∷ []) none)
 
-pub sac-parts : (wishes : ℕ) → empty wishes ≡ false → sacOctets wishes ≡ sacParts (wishElements wishes appCount)
+pub sac-one : (wishes : ℕ) → empty wishes ≡ false → sacOctets wishes ≡ tlvOctets (wishTlv wishes)
 unfolding sacFor
-sac-parts wishes some =
-    let e = wishElements wishes appCount in
-    let counted : suc (length e) ≡ 1 + length e = omega arith in
-    ap areaOf (left [] (wishTlv wishes ∷ []) some)
-    ∙ ap (λ (l : List ℕ). tlvHead (uBit + sacType) (suc (length e)) ++ (topBit true ∷ l)) (append-nil e)
-    ∙ ap (λ (n : ℕ). (tlvHead (uBit + sacType) n ++ (topBit true ∷ [])) ++ e) counted
+sac-one wishes some = ap areaOf (left [] (wishTlv wishes ∷ []) some) ∙ append-nil (tlvOctets (wishTlv wishes))

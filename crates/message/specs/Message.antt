@@ -8,10 +8,10 @@ use lib.Dec.{ltb}
 use Rattle.choice.specs.Pick.{pick}
 use Rattle.octets.specs.Octets.{be16, be32, topBit, over}
 use Rattle.area.specs.Area.{tacType, sacType}
-use Rattle.area.specs.Tlvs.{areaOf}
+use Rattle.area.specs.Tlvs.{ours, areaOf}
 use Rattle.message.specs.declared.Message.{Message}
 use Rattle.message.specs.declared.Message.the-variants.{NoMessage, Change, Wish}
-use Rattle.message.specs.Sac.{ours, appElement, sacValue}
+use Rattle.message.specs.Sac.{appElement, sacValue}
 
 -- an element of a TAC: "TA-Id (16 bits), E (the top bit of the third octet), 15 reserved bits"; "reserved and unused bits are written 0"
 abbrev pub element : ℕ → Bool → List ℕ

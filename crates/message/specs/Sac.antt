@@ -3,17 +3,12 @@
 use Prim.Native.Nat.{ℕ, zero, suc, _+_, _*_, _%_}
 use mathlib.Core.Bool.{Bool, true}
 use mathlib.Core.List.{List, [], _∷_, _++_}
-use lib.ListN.{length}
 use Rattle.choice.specs.Pick.{pick}
 use Rattle.sets.specs.Set.{has, empty}
 use Rattle.octets.specs.Octets.{topBit}
 use Rattle.kinds.specs.Kinds.{appCount}
-use Rattle.area.specs.Area.{uBit, sacType}
-use Rattle.area.specs.Tlvs.{Tlv, tlvHead, areaOf}
-
--- a TLV of ours: "their U and F bits .. are written as 1 and 0"
-abbrev pub ours : ℕ → List ℕ → Tlv
-ours type value = record { head = uBit + type; value = value }
+use Rattle.area.specs.Area.{sacType}
+use Rattle.area.specs.Tlvs.{Tlv, ours, areaOf}
 
 -- an element: "D (top bit), App (3 bits), 4 unused bits"; "reserved and unused bits are written 0"
 abbrev pub appElement : ℕ → Bool → ℕ
@@ -30,10 +25,6 @@ wishElement wishes i = pick (has wishes i) (appElement (i + 1) true ∷ []) []
 unfoldable pub wishElements : ℕ → ℕ → List ℕ
 wishElements wishes zero = []
 wishElements wishes (suc n) = wishElements wishes n ++ wishElement wishes n
-
--- the octets with these elements: "0x050D SAC", the length, S, the elements
-abbrev pub sacParts : List ℕ → List ℕ
-sacParts elements = (tlvHead (uBit + sacType) (1 + length elements) ++ (topBit true ∷ [])) ++ elements
 
 -- the TLV, or none; and its octets
 abbrev pub wishTlv : ℕ → Tlv

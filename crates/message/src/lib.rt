@@ -1,7 +1,6 @@
 // The messages that events write, from their parts: a head with its number, then TLVs.
 ghost use mathlib.Core.Path.{_≡_};
 ghost use Prim.Native.Nat.{_+_, _<_, _≤_};
-ghost use mathlib.Core.List.{_++_};
 ghost use lib.ListN.{length};
 ghost use Rattle.octets.specs.Octets.{over};
 ghost use Rattle.area.specs.Area.{uBit, typeCount};
@@ -92,28 +91,20 @@ fn one_app(n: u32, disable: bool) -> [u8; 2]
     [octets::top_bit(true), element]
 }
 
-// Three parts, one behind the other. Without room for all of them nothing is written.
-fn put_parts(room: &mut [u8], first: &[u8], second: &[u8], third: &[u8])
-    requires { ⌜ (length (now first) ≤ 8) × (length (now second) ≤ 4) × (length (now third) ≤ 5) ⌝ }
-    ensures { λ _. ⌜ now (room .exit) ≡ over ((now (first .entry) ++ now (second .entry)) ++ now (third .entry)) (now (room .entry)) ⌝ }
-{
-    let behind = first.len() + second.len();
-    if room.len() < behind + third.len() {
-        return;
-    }
-    octets::put(room, first);
-    octets::put_at(room, first.len(), second);
-    octets::put_at(room, behind, third);
-}
-
 // A Capability message with one TLV of ours, of type t. Without room for all of it nothing is written.
 fn write_with(room: &mut [u8], number: u32, t: usize, value: &[u8])
     requires { ⌜ (t < typeCount) × (length (now value) ≤ 5) ⌝ }
     ensures { λ _. ⌜ now (room .exit) ≡ over (capabilityWith number t (now (value .entry))) (now (room .entry)) ⌝ }
 {
-    let head = message_head(CAPABILITY, area::HEAD_LENGTH + value.len(), number);
+    let area = area::HEAD_LENGTH + value.len();
+    if room.len() < MESSAGE_HEAD + area {
+        return;
+    }
+    let head = message_head(CAPABILITY, area, number);
     let tlv = tlv_head(t, value.len());
-    put_parts(room, &head, &tlv, value);
+    octets::put(room, &head);
+    octets::put_at(room, MESSAGE_HEAD, &tlv);
+    octets::put_at(room, MESSAGE_HEAD + area::HEAD_LENGTH, value);
 }
 
 // A change: the TAC with one element.

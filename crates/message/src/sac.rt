@@ -4,7 +4,8 @@ ghost use Prim.Native.Nat.{_+_, _<_, _≤_};
 ghost use lib.ListN.{length};
 ghost use Rattle.kinds.specs.Kinds.{appCount};
 ghost use Rattle.octets.specs.Octets.{over, overAt};
-ghost use Rattle.message.specs.Sac.{appElement, wishElement, wishElements, sacParts, sacOctets};
+ghost use Rattle.area.specs.Tlvs.{tlvOctets};
+ghost use Rattle.message.specs.Sac.{appElement, wishElement, wishElements, wishTlv, sacOctets};
 use kinds::SacApp;
 
 // An element of a SAC: D and the App.
@@ -67,7 +68,7 @@ fn put_elements(room: &mut [u8], at: usize, wishes: u8)
 // Puts the SAC, of so many elements, over the front of a room that it fits: its head, S, the elements.
 fn put_sac(room: &mut [u8], n: usize, wishes: u8)
     requires { ⌜ (n ≡ length (wishElements wishes appCount)) × (5 + n ≤ length (now room)) ⌝ }
-    ensures { λ _. ⌜ now (room .exit) ≡ over (sacParts (wishElements wishes appCount)) (now (room .entry)) ⌝ }
+    ensures { λ _. ⌜ now (room .exit) ≡ over (tlvOctets (wishTlv wishes)) (now (room .entry)) ⌝ }
 {
     let head = crate::tlv_head(area::SAC, 1 + n);
     let s = [octets::top_bit(true)];

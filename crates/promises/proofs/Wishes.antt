@@ -17,7 +17,7 @@ use Rattle.session.specs.Session.{Sound}
 use Rattle.session.specs.With.{withOtherEnabled}
 use Rattle.session.specs.Events.{same, Event, Initialization, Capability, LocalChange, Wish, Mismatch, Hello, Closed, Unknown, step}
 use Rattle.session.proofs.Alike.{Alike}
-use Rattle.session.proofs.Kept.{wish-about, wish-done, wish-so, refused-alike}
+use Rattle.session.proofs.Wishes.{wish-about, wish-done, wish-so, refused-alike}
 use Rattle.session.proofs.Steps.{step-sound}
 use Rattle.session.proofs.SoundMeans.{sound-means}
 use Rattle.promises.specs.Run.{StaysOpen}

@@ -41,7 +41,7 @@ use Rattle.session.specs.Decisions.{answered, Done, Negotiate, settled}
 use Rattle.session.specs.Events.{unlessRefused, takesTac, afterInitialization, afterCapability, onCapability, Capability, step, roomAfter}
 use Rattle.session.proofs.SoundMeans.{sound-means}
 use Rattle.session.proofs.Made.{sound-common}
-use Rattle.session.proofs.Kept.{wish-about, wish-wrote}
+use Rattle.session.proofs.Wishes.{wish-about, wish-wrote}
 use Rattle.session.proofs.Steps.{opened-is}
 use Rattle.promises.specs.Wishes.{answerTo, areaOfWish, WishReadAsMeant, SacWritten, SacIsWritten, SacReadAsMeant, HasRead, opened, told, since, WantedIsNotDisabled}
 use Rattle.promises.proofs.Wishes.{after-sound}

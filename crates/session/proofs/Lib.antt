@@ -6,4 +6,4 @@ pub mod Alike
 pub mod View
 pub mod Steps
 pub mod PermittedMeans
-pub mod Kept
+pub mod Wishes

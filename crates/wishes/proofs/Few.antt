@@ -9,7 +9,7 @@ use Rattle.sets.specs.Set.{empty}
 use Rattle.sets.proofs.Bounds.{below-lt, lt-below}
 use Rattle.kinds.specs.Kinds.{appCount}
 use Rattle.message.specs.Sac.{sacOctets}
-use Rattle.message.proofs.Elements.{elements-most, sac-none, sac-parts}
+use Rattle.message.proofs.Elements.{elements-most, sac-none, sac-one}
 use Rattle.wishes.specs.Wishes.{soundWishes}
 
 pub sound-few : (wishes : ℕ) → soundWishes wishes ≡ true → wishes < 2 ^ appCount
@@ -25,4 +25,4 @@ sac-short wishes = go (empty wishes) refl
   where
     go : (x : Bool) → empty wishes ≡ x → length (sacOctets wishes) ≤ 9
     go true e = omega (arith, ap length (sac-none wishes e))
-    go false e = omega (arith, ap length (sac-parts wishes e), elements-most wishes appCount)
+    go false e = omega (arith, ap length (sac-one wishes e), elements-most wishes appCount)

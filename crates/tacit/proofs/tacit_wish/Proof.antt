@@ -4,7 +4,7 @@ use mathlib.Core.Path.{sym, ap, _∙_}
 use Rattle.wishes.specs.Wishes.{wishesAfter}
 use Rattle.session.specs.declared.Answer.{Answer}
 use Rattle.session.specs.Events.{roomAfter}
-use Rattle.session.proofs.Kept.{wish-about}
+use Rattle.session.proofs.Wishes.{wish-about}
 use borrow.Author.Needs.{needs}
 use Rattle.tacit.proofs.tacit_wish.Statement.{statement}
 use Rattle.tacit.proofs.tacit_wish.Tie as tie

@@ -1,6 +1,6 @@
 -- `message::put_sac` meets its contract: one part stands behind the other. Assumes nothing.
-use Prim.Native.Nat.{ℕ, _+_}
-use mathlib.Core.Path.{refl, ap, _∙_}
+use Prim.Native.Nat.{ℕ, suc, _+_}
+use mathlib.Core.Path.{_≡_, refl, ap, _∙_}
 use mathlib.Core.Bool.{true}
 use mathlib.Core.List.{List, [], _∷_, _++_}
 use native.Mathlib.Omega.{arith}
@@ -28,9 +28,11 @@ returns c =
     let h = tlvHead (uBit + sacType) (1 + length e) in
     let head = tlv .tlv-head .ensures ∙ ap (λ (k : ℕ). tlvHead (uBit + sacType) (1 + k)) n in
     let s = ap (λ (x : ℕ). x ∷ []) (top .top-bit .ensures) in
+    let counted : 1 + length e ≡ suc (length e) = omega arith in
     then (h ++ (topBit true ∷ [])) e room (omega (arith, g .pre))
     (then h (topBit true ∷ []) room (omega (arith, g .pre)) (first .put .ensures ∙ ap (λ (l : List ℕ). over l room) head) s (second .put-at .ensures))
     refl (c .before .before .put-elements .ensures)
+    ∙ ap (λ (k : ℕ). over ((tlvHead (uBit + sacType) k ++ (topBit true ∷ [])) ++ e) room) counted
 
 pub put-sac-spec : {M : Type 1} → statement M
 put-sac-spec =

@@ -1,4 +1,4 @@
--- `message::write_sac` meets its contract: nothing, the SAC in its parts, or no room for them. Assumes nothing.
+-- `message::write_sac` meets its contract: nothing, the SAC, or no room for it. Assumes nothing.
 use Prim.Native.Nat.{ℕ, _+_}
 use mathlib.Core.Path.{_≡_, sym, ap}
 use mathlib.Core.Bool.{false}
@@ -10,7 +10,7 @@ use Rattle.sets.specs.Set.{empty}
 use Rattle.kinds.specs.Kinds.{appCount}
 use Rattle.octets.proofs.Front.{over-fits, over-short}
 use Rattle.message.specs.Sac.{wishElements, sacOctets}
-use Rattle.message.proofs.Elements.{elements-most, sac-none, sac-parts}
+use Rattle.message.proofs.Elements.{elements-most, sac-none, sac-one}
 use borrow.Author.Needs.{needs}
 use Rattle.message.proofs.sac.write_sac.Statement.{statement}
 use Rattle.message.proofs.sac.write_sac.Tie as tie
@@ -26,7 +26,7 @@ add-whole-2 c = omega (arith, c .elements-count .ensures, elements-most (c .befo
 
 -- how many octets it has
 whole-is : (wishes n : ℕ) → empty wishes ≡ false → n ≡ length (wishElements wishes appCount) → 5 + n ≡ length (sacOctets wishes)
-whole-is wishes n some e = omega (arith, ap length (sac-parts wishes some))
+whole-is wishes n some e = omega (arith, ap length (sac-one wishes some))
 
 returns-2 : tie.Need-returns-2
 unfolding empty
@@ -34,7 +34,7 @@ returns-2 c =
     let count = c .before .before .before .before .before in
     let wishes = count .before .before .before .args .wishes in
     let some = ne-eqb _ _ (count .before .if1 .left) in
-    (whole-is wishes _ some (count .elements-count .ensures), rw (sac-parts wishes some) (c .before .before .put-sac .ensures))
+    (whole-is wishes _ some (count .elements-count .ensures), rw (sac-one wishes some) (c .before .before .put-sac .ensures))
 
 returns-3 : tie.Need-returns-3
 unfolding empty
