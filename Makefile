@@ -2,7 +2,7 @@
 
 PREFIX        ?= /usr/local
 DESTDIR       ?=
-VERSION       := 2.0.0
+VERSION       := 3.0.0
 CALLS         ?= 200000
 SEED          ?= 0x7AC17
 
@@ -109,7 +109,7 @@ mutants: $(library)
 
 # For the gate: one rule of each part, and one fault of the library.
 few := area-3-before-5 tac-by-position permitted-despite-sac change-9-not-asked at-limit-never wish-7-before-unchanged \
-       record-lists-swapped row-another-touched library-writes-behind
+       record-lists-swapped row-another-touched total-66-losing-taken library-writes-behind
 mutants-few: $(library)
 	@$(here) tests/mutants/run --calls 100000 --seed $(SEED) $(few)
 

@@ -9,7 +9,8 @@
  * WHO is tacit, the library; plain, the same in C (plain.c); second, the second
  * program; or nothing: calls with the same parameters that do nothing, for what the
  * loop itself takes. Before each call the record is put back as it was, and the
- * session of the row that events are for; no other buffer is touched.
+ * session of the row that events are for; no other buffer is touched. A question about
+ * a session by itself is asked as a walk does: a call for each session of the row.
  */
 #define _DEFAULT_SOURCE
 #include "calls.h"
@@ -47,6 +48,9 @@ static struct area frr = {15, {0x85, 0x06, 0, 1, 0x80, 0x85, 0x0B, 0, 1, 0x80, 0
 static struct area six = {39, {0x85, 0x06, 0, 1, 0x80, 0x85, 0x08, 0, 1, 0x80, 0x85, 0x09, 0,
                                1, 0x80, 0x85, 0x0B, 0, 1, 0x80, 0x85, 0x0D, 0, 2, 0x80, 0xB0,
                                0x85, 0x0F, 0, 9, 0x80, 0, 4, 0x80, 0, 0, 7, 0x80, 0}};
+
+/* A TAC with S = 0, and a SAC that disables App 1: kind 0 is lost, 1 to 6 and 9 are gained. */
+static struct area withdrawn = {11, {0x85, 0x0F, 0, 1, 0, 0x85, 0x0D, 0, 2, 0x80, 0x90}};
 
 /* A TAC alone: by how many elements it has, and by what they name. */
 static struct area elements_250, elements_500, elements_1000, unknown_1000, repeated_1000;
@@ -106,7 +110,7 @@ struct row {
     unsigned long times; /* calls that make a count */
     const uint8_t *from; /* the record before each call, and the row's last session */
     const struct area *area;
-    struct given given; /* all but octets, sessions, limits and settings */
+    struct given given; /* all but octets, sessions, limits, totals and settings */
 };
 
 /* A row of so many sessions, and the call for the last of them. */
@@ -180,6 +184,10 @@ static const struct row rows[] = {
      {.call = ROW_EVENT, IN_ROW(16), .event = {TACIT_EVENT_INITIALIZATION, 0, 0, 0}}},
     {"row-init-64", "Initialization in a row of 64, six capability TLVs", 1000, ready, &six,
      {.call = ROW_EVENT, IN_ROW(64), .event = {TACIT_EVENT_INITIALIZATION, 0, 0, 0}}},
+    {"row-init-all-64", "Initialization in a row of 64, all ten kinds gained", 1000, ready, &frr,
+     {.call = ROW_EVENT, IN_ROW(64), .event = {TACIT_EVENT_INITIALIZATION, 0, 0, 0}}},
+    {"row-cap-64", "Capability in a row of 64, one kind lost and seven gained", 1000, opened,
+     &withdrawn, {.call = ROW_EVENT, IN_ROW(64), .event = {TACIT_EVENT_CAPABILITY, 0, 0, 0}}},
     {"row-hello-1", "Hello in a row of 1, recorded", 1000, ready, &none,
      {.call = ROW_EVENT, IN_ROW(1), .event = {TACIT_EVENT_HELLO, 0, 0, 5}}},
     {"row-hello-16", "Hello in a row of 16, recorded", 1000, ready, &none,
@@ -194,6 +202,12 @@ static const struct row rows[] = {
      {.call = ROW_EVENT, IN_ROW(64), .event = {TACIT_EVENT_CLOSED, 0, 0, 0}}},
     {"row-count-64", "count in a row of 64", 1000, opened, &none,
      {.call = ROW_COUNT, IN_ROW(64), .ta_id = 4}},
+    {"kind-total", "how many may get a kind, from the totals", 10000, opened, &none,
+     {.call = KIND_TOTAL, IN_ROW(64), .kind = TACIT_KIND_GENERALIZED_PWID}},
+    {"kind-walk-64", "how many may get a kind, by a walk over a row of 64", 500, opened, &none,
+     {.call = SESSION_KINDS, IN_ROW(64)}},
+    {"recount-64", "recount in a row of 64", 1000, opened, &none,
+     {.call = RECOUNT, IN_ROW(64)}},
 };
 
 enum { ROWS = sizeof rows / sizeof *rows };
@@ -202,7 +216,7 @@ static uint8_t said[SAID]; /* by the last call */
 
 /*
  * Makes the calls. Of the row all sessions but the last are open; an event changes no
- * other than that one, so that it alone is put back.
+ * other than that one, so that it alone is put back. The totals are those of the row.
  */
 static void run(const struct who *who, const struct row *row, unsigned long times)
 {
@@ -217,10 +231,16 @@ static void run(const struct who *who, const struct row *row, unsigned long time
     given.lent[ROOM].length = sizeof room;
     for (size_t i = 0; i < given.at; i++)
         sessions[i] = tacit_load(opened, sizeof opened).session;
+    sessions[given.at] = given.session;
+    given.totals = tacit_recount(sessions, given.at + 1).totals;
+    const size_t first = given.call == SESSION_KINDS ? 0 : given.at; /* by a walk, or at once */
     while (times-- > 0) {
         memcpy(record, row->from, sizeof record);
         sessions[given.at] = given.session;
-        make_call(&who->calls, &given, at, said);
+        for (size_t i = first; i <= given.at; i++) {
+            given.session = sessions[i];
+            make_call(&who->calls, &given, at, said);
+        }
     }
 }
 

@@ -3,7 +3,7 @@
  *
  * What a call takes is measured by this one (bench), and the comparison has it for a
  * third opinion (tests/compare). The rules are those of document 01, of the requests
- * L1 and L2 and of tacit.h; no code is shared with the library or the second program.
+ * L1, L2 and L3 and of tacit.h; no code is shared with the library or the second program.
  */
 #include "calls.h"
 
@@ -37,7 +37,7 @@ static inline void put_be32(uint8_t *to, uint32_t number)
 /* Applications and kinds                                                  */
 /* ---------------------------------------------------------------------- */
 
-enum { KINDS = 10, SAC_APPS = 4 };
+enum { SAC_APPS = 4 };
 
 static inline bool is_application(uint32_t ta_id)
 {
@@ -66,7 +66,7 @@ enum {
 };
 
 /* The same by kind, without Session Protection. */
-static const uint16_t applications_for[KINDS] = {
+static const uint16_t applications_for[TACIT_KINDS] = {
     [TACIT_KIND_IPV4_PREFIX] = FOR_IPV4,
     [TACIT_KIND_IPV6_PREFIX] = FOR_IPV6,
     [TACIT_KIND_P2MP] = FOR_MLDP,
@@ -724,7 +724,7 @@ struct tacit_permission plain_permitted(const uint8_t *record, size_t record_len
     struct tacit_session session;
     if (!read_record(&session, record, record_len))
         return (struct tacit_permission){.refusal = TACIT_REFUSED_NOT_SOUND};
-    if (kind >= KINDS)
+    if (kind >= TACIT_KINDS)
         return (struct tacit_permission){.refusal = TACIT_REFUSED_NUMBER};
     return (struct tacit_permission){.permitted = why_not(&session, kind) == TACIT_PERMITTED};
 }
@@ -756,7 +756,7 @@ struct tacit_reason plain_why_not(const uint8_t *record, size_t record_len, uint
     struct tacit_session session;
     if (!read_record(&session, record, record_len))
         return (struct tacit_reason){.refusal = TACIT_REFUSED_NOT_SOUND};
-    if (kind >= KINDS)
+    if (kind >= TACIT_KINDS)
         return (struct tacit_reason){.refusal = TACIT_REFUSED_NUMBER};
     return (struct tacit_reason){.reason = why_not(&session, kind)};
 }
@@ -799,7 +799,7 @@ struct tacit_want plain_wanted(uint32_t wishes, uint32_t kind)
 {
     if ((wishes & ~TACIT_ALL_SAC) != 0)
         return (struct tacit_want){.refusal = TACIT_REFUSED_NOT_SOUND};
-    if (kind >= KINDS)
+    if (kind >= TACIT_KINDS)
         return (struct tacit_want){.refusal = TACIT_REFUSED_NUMBER};
     return (struct tacit_want){.wanted = (controlled_by(wishes) >> kind & 1) == 0};
 }
@@ -901,20 +901,17 @@ static bool all_at_limit(const struct tacit_session *row, size_t row_len,
 }
 
 /* The session opens by itself first, and stays so only if the limits allow it. */
-static struct tacit_answer row_initialization(struct tacit_session *row, size_t row_len, size_t at,
-                                              const struct tacit_limits *limits,
-                                              const uint8_t *area, size_t area_len)
+static struct tacit_answer limited_initialization(struct tacit_session *session,
+                                                  const struct tacit_session *row, size_t row_len,
+                                                  const struct tacit_limits *limits,
+                                                  const uint8_t *area, size_t area_len)
 {
-    struct tacit_session after = row[at];
-    struct tacit_answer answer = initialization(&after, area, area_len);
-    if (answer.refusal != TACIT_NOT_REFUSED)
+    struct tacit_answer answer = initialization(session, area, area_len);
+    if (answer.refusal != TACIT_NOT_REFUSED || used(session) == 0 ||
+        !all_at_limit(row, row_len, limits, used(session)))
         return answer;
-    if (used(&after) != 0 && all_at_limit(row, row_len, limits, used(&after))) {
-        leave_by_mismatch(&row[at]);
-        return came_to(TACIT_AT_LIMIT);
-    }
-    row[at] = after;
-    return answer;
+    leave_by_mismatch(session);
+    return came_to(TACIT_AT_LIMIT);
 }
 
 struct tacit_count plain_row_count(const struct tacit_session *row, size_t row_len, uint32_t ta_id)
@@ -927,69 +924,159 @@ struct tacit_count plain_row_count(const struct tacit_session *row, size_t row_l
     return (struct tacit_count){.count = users(row, row_len, TACIT_APP_SET(ta_id))};
 }
 
-struct tacit_answer plain_row_event(struct tacit_session *row, size_t row_len, size_t at,
-                                    struct tacit_event event, struct tacit_limits limits,
-                                    const uint8_t *area, size_t area_len, uint8_t *room,
-                                    size_t room_len)
+/* ---------------------------------------------------------------------- */
+/* The totals of a row                                                     */
+/* ---------------------------------------------------------------------- */
+
+/* Moves the totals of these kinds by one; false if one would come to stand outside 0 to 64. */
+static inline bool move_totals(struct tacit_totals *totals, unsigned kinds, unsigned by)
 {
-    uint8_t refusal = refusal_of_row(row, row_len, at);
-    if (refusal != TACIT_NOT_REFUSED)
-        return refused(refusal);
-    switch (event.which) {
+    for (; kinds != 0; kinds &= kinds - 1) {
+        uint8_t *total = &totals->of[__builtin_ctz(kinds)];
+        unsigned after = *total + by; /* below 0 it is a high number */
+        if (after > TACIT_ROW_MOST)
+            return false;
+        *total = (uint8_t)after;
+    }
+    return true;
+}
+
+/* Brings the totals up to date after an event; false if they cannot be. */
+static inline bool follow(struct tacit_totals *totals, unsigned lost, unsigned gained)
+{
+    return move_totals(totals, lost, -1u) && move_totals(totals, gained, 1);
+}
+
+struct tacit_total plain_kind_total(struct tacit_totals totals, uint32_t kind)
+{
+    if (kind >= TACIT_KINDS)
+        return (struct tacit_total){.refusal = TACIT_REFUSED_NUMBER};
+    return (struct tacit_total){.total = totals.of[kind]};
+}
+
+struct tacit_row_totals plain_recount(const struct tacit_session *row, size_t row_len)
+{
+    if (row_len == 0 || row_len > TACIT_ROW_MOST)
+        return (struct tacit_row_totals){.refusal = TACIT_REFUSED_ROW};
+    struct tacit_row_totals counted = {0};
+    for (size_t i = 0; i < row_len; i++) {
+        if (!is_sound(&row[i]))
+            return (struct tacit_row_totals){.refusal = TACIT_REFUSED_NOT_SOUND};
+        for (unsigned kinds = permitted_kinds(&row[i]); kinds != 0; kinds &= kinds - 1)
+            counted.totals.of[__builtin_ctz(kinds)]++;
+    }
+    return counted;
+}
+
+/* ---------------------------------------------------------------------- */
+/* Events in a row                                                         */
+/* ---------------------------------------------------------------------- */
+
+/* What an event makes of a session of this row; the row itself is only looked at. */
+static inline struct tacit_answer happen(struct tacit_session *session,
+                                         const struct tacit_session *row, size_t row_len,
+                                         const struct tacit_event *event,
+                                         const struct tacit_limits *limits, const uint8_t *area,
+                                         size_t area_len, uint8_t *room, size_t room_len)
+{
+    switch (event->which) {
     case TACIT_EVENT_INITIALIZATION:
-        return row_initialization(row, row_len, at, &limits, area, area_len);
+        return limited_initialization(session, row, row_len, limits, area, area_len);
     case TACIT_EVENT_CAPABILITY:
-        return capability(&row[at], area, area_len);
+        return capability(session, area, area_len);
     case TACIT_EVENT_LOCAL_CHANGE:
-        return local_change(&row[at], event.ta_id, event.on != 0, room, room_len);
+        return local_change(session, event->ta_id, event->on != 0, room, room_len);
     case TACIT_EVENT_MISMATCH:
-        return mismatch(&row[at]);
+        return mismatch(session);
     case TACIT_EVENT_HELLO:
-        return hello(&row[at], event.number);
+        return hello(session, event->number);
     case TACIT_EVENT_CLOSED:
-        return closed(&row[at]);
+        return closed(session);
     default:
         return refused(TACIT_REFUSED_STATE);
     }
 }
 
+/* The event happens to a copy, put down with its message once the totals have followed it. */
+struct tacit_row_answer plain_row_event(struct tacit_session *row, size_t row_len, size_t at,
+                                        struct tacit_event event, struct tacit_limits limits,
+                                        struct tacit_totals totals, const uint8_t *area,
+                                        size_t area_len, uint8_t *room, size_t room_len)
+{
+    uint8_t refusal = refusal_of_row(row, row_len, at);
+    if (refusal != TACIT_NOT_REFUSED)
+        return (struct tacit_row_answer){refused(refusal), totals};
+    struct tacit_session after = row[at];
+    uint8_t message[TACIT_MESSAGE_LENGTH];
+    struct tacit_answer answer =
+        happen(&after, row, row_len, &event, &limits, area, area_len, message, room_len);
+    if (answer.refusal != TACIT_NOT_REFUSED)
+        return (struct tacit_row_answer){answer, totals};
+    struct tacit_totals followed = totals;
+    if (!follow(&followed, answer.lost, answer.gained))
+        return (struct tacit_row_answer){refused(TACIT_REFUSED_TOTAL), totals};
+    if (answer.written != 0)
+        memcpy(room, message, sizeof message);
+    row[at] = after;
+    return (struct tacit_row_answer){answer, followed};
+}
+
+/* The same, with the totals kept where they stand. */
+static struct tacit_answer row_event_kept(struct tacit_session *row, size_t row_len, size_t at,
+                                          struct tacit_event event, struct tacit_limits limits,
+                                          struct tacit_totals *totals, const uint8_t *area,
+                                          size_t area_len, uint8_t *room, size_t room_len)
+{
+    struct tacit_row_answer after = plain_row_event(row, row_len, at, event, limits, *totals, area,
+                                                    area_len, room, room_len);
+    *totals = after.totals;
+    return after.answer;
+}
+
 struct tacit_answer plain_row_initialization(struct tacit_session *row, size_t row_len, size_t at,
-                                             struct tacit_limits limits, const uint8_t *area,
+                                             struct tacit_limits limits,
+                                             struct tacit_totals *totals, const uint8_t *area,
                                              size_t area_len)
 {
     struct tacit_event event = {.which = TACIT_EVENT_INITIALIZATION};
-    return plain_row_event(row, row_len, at, event, limits, area, area_len, NULL, 0);
+    return row_event_kept(row, row_len, at, event, limits, totals, area, area_len, NULL, 0);
 }
 
 struct tacit_answer plain_row_capability(struct tacit_session *row, size_t row_len, size_t at,
-                                         const uint8_t *area, size_t area_len)
+                                         struct tacit_totals *totals, const uint8_t *area,
+                                         size_t area_len)
 {
     struct tacit_event event = {.which = TACIT_EVENT_CAPABILITY};
-    return plain_row_event(row, row_len, at, event, plain_no_limits(), area, area_len, NULL, 0);
+    return row_event_kept(row, row_len, at, event, plain_no_limits(), totals, area, area_len, NULL,
+                          0);
 }
 
 struct tacit_answer plain_row_local_change(struct tacit_session *row, size_t row_len, size_t at,
-                                           uint32_t ta_id, bool on, uint8_t *room, size_t room_len)
+                                           struct tacit_totals *totals, uint32_t ta_id, bool on,
+                                           uint8_t *room, size_t room_len)
 {
     struct tacit_event event = {.which = TACIT_EVENT_LOCAL_CHANGE, .ta_id = ta_id, .on = on};
-    return plain_row_event(row, row_len, at, event, plain_no_limits(), NULL, 0, room, room_len);
+    return row_event_kept(row, row_len, at, event, plain_no_limits(), totals, NULL, 0, room,
+                          room_len);
 }
 
-struct tacit_answer plain_row_mismatch(struct tacit_session *row, size_t row_len, size_t at)
+struct tacit_answer plain_row_mismatch(struct tacit_session *row, size_t row_len, size_t at,
+                                       struct tacit_totals *totals)
 {
     struct tacit_event event = {.which = TACIT_EVENT_MISMATCH};
-    return plain_row_event(row, row_len, at, event, plain_no_limits(), NULL, 0, NULL, 0);
+    return row_event_kept(row, row_len, at, event, plain_no_limits(), totals, NULL, 0, NULL, 0);
 }
 
 struct tacit_answer plain_row_hello(struct tacit_session *row, size_t row_len, size_t at,
-                                    uint32_t number)
+                                    struct tacit_totals *totals, uint32_t number)
 {
     struct tacit_event event = {.which = TACIT_EVENT_HELLO, .number = number};
-    return plain_row_event(row, row_len, at, event, plain_no_limits(), NULL, 0, NULL, 0);
+    return row_event_kept(row, row_len, at, event, plain_no_limits(), totals, NULL, 0, NULL, 0);
 }
 
-struct tacit_answer plain_row_closed(struct tacit_session *row, size_t row_len, size_t at)
+struct tacit_answer plain_row_closed(struct tacit_session *row, size_t row_len, size_t at,
+                                     struct tacit_totals *totals)
 {
     struct tacit_event event = {.which = TACIT_EVENT_CLOSED};
-    return plain_row_event(row, row_len, at, event, plain_no_limits(), NULL, 0, NULL, 0);
+    return row_event_kept(row, row_len, at, event, plain_no_limits(), totals, NULL, 0, NULL, 0);
 }

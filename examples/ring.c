@@ -1,8 +1,9 @@
 /*
  * A night on the ring: a responder that lets no more than two sessions in for
  * LDPv4 Remote LFA. Each event gives a line as an operator would find it in the
- * log, and then how many sessions use the two applications. Run it with
- * `make demo`; what it prints is kept in ring.txt.
+ * log, and then how many sessions use the two applications. Before a batch of
+ * labels it asks the totals that it keeps with its row how many sessions may get
+ * them. Run it with `make demo`; what it prints is kept in ring.txt.
  */
 #include "tacit.h"
 
@@ -15,6 +16,7 @@
 enum { NORTH, EAST, SOUTH, HUB, WEST, SESSIONS };
 static const char *const peer[SESSIONS] = {"north", "east", "south", "hub", "west"};
 static struct tacit_session row[SESSIONS];
+static struct tacit_totals totals; /* how many of them permit each kind: 0 while all are fresh */
 static struct tacit_limits limits;
 
 /* What a peer lists. */
@@ -96,7 +98,7 @@ static struct tacit_answer initialize(size_t at, const uint8_t *list, size_t cou
     for (size_t i = 0; i < count; i++)
         printf("%s %s", i == 0 ? "" : ",", tacit_application_text(list[i]));
     struct tacit_answer answer =
-        tacit_row_initialization(row, SESSIONS, at, limits, area, length);
+        tacit_row_initialization(row, SESSIONS, at, limits, &totals, area, length);
     log_answer(at, answer);
     log_counts();
     return answer;
@@ -105,10 +107,54 @@ static struct tacit_answer initialize(size_t at, const uint8_t *list, size_t cou
 static struct tacit_answer close_connection(size_t at)
 {
     printf("   %-9sconnection closed", peer[at]);
-    struct tacit_answer answer = tacit_row_closed(row, SESSIONS, at);
+    struct tacit_answer answer = tacit_row_closed(row, SESSIONS, at, &totals);
     log_answer(at, answer);
     log_counts();
     return answer;
+}
+
+/* ---- Batches of labels ---- */
+
+/* As it is asked without totals: of every session of the row. */
+static unsigned by_a_walk(uint32_t kind)
+{
+    unsigned count = 0;
+    for (size_t at = 0; at < SESSIONS; at++)
+        if ((tacit_session_kinds(row[at]).kinds & TACIT_KIND_SET(kind)) != 0)
+            count++;
+    return count;
+}
+
+/* Before a batch: how many sessions may get labels of this kind. */
+static unsigned batch(uint32_t kind)
+{
+    struct tacit_total may = tacit_kind_total(totals, kind);
+    unsigned walk = by_a_walk(kind);
+    printf("   %-9s%s: %u of %u sessions by the totals, %u by a walk\n", "batch",
+           tacit_kind_text(kind), may.total, SESSIONS, walk);
+    expect(may.refusal == 0 && may.total == walk, "the totals say what a walk says");
+    return may.total;
+}
+
+/* ---- Restart ---- */
+
+static void store(uint8_t records[SESSIONS][TACIT_RECORD_LENGTH])
+{
+    for (size_t at = 0; at < SESSIONS; at++)
+        expect(tacit_store(row[at], records[at], TACIT_RECORD_LENGTH) == 0, "a session is stored");
+}
+
+/* Sessions may have been Open when they were stored, so the totals are counted anew. */
+static void load(uint8_t records[SESSIONS][TACIT_RECORD_LENGTH])
+{
+    for (size_t at = 0; at < SESSIONS; at++) {
+        struct tacit_loaded loaded = tacit_load(records[at], TACIT_RECORD_LENGTH);
+        expect(loaded.refusal == 0, "a session is loaded");
+        row[at] = loaded.session;
+    }
+    struct tacit_row_totals counted = tacit_recount(row, SESSIONS);
+    expect(counted.refusal == 0, "the totals are counted");
+    totals = counted.totals;
 }
 
 /* ---- The story ---- */
@@ -167,6 +213,17 @@ static void a_pseudowire_comes_after_it(void)
     expect(answer.gained == TACIT_KIND_SET(TACIT_KIND_GENERALIZED_PWID), "with its pseudowires");
 }
 
+static void batches_are_due(void)
+{
+    step("Batches of labels are due");
+    unsigned prefixes = batch(TACIT_KIND_IPV4_PREFIX);
+    unsigned wires = batch(TACIT_KIND_GENERALIZED_PWID);
+    unsigned trees = batch(TACIT_KIND_P2MP);
+    puts("   The label process asks before each batch, and makes none that nobody may get. The");
+    puts("   totals go with the row, and every event has brought them up to date.");
+    expect(prefixes == 2 && wires == 1 && trees == 0, "each kind has its total");
+}
+
 static void one_leaves_and_another_comes(void)
 {
     step("One leaves, and the one that was turned away tries again");
@@ -185,6 +242,8 @@ static void a_count_passes_its_limit(void)
     expect(answer.outcome == TACIT_DONE && row[WEST].state == TACIT_OPEN, "west is let in");
     expect(used_by(TACIT_APP_LDPV4_REMOTE_LFA) == 3, "three use LDPv4 Remote LFA");
     expect(used_by(TACIT_APP_FEC129_PW) == 2, "two use FEC 129 PW");
+    expect(batch(TACIT_KIND_IPV4_PREFIX) == 3, "three may get IPv4 prefixes");
+    expect(batch(TACIT_KIND_GENERALIZED_PWID) == 2, "two may get pseudowires");
 }
 
 static void north_comes_back(void)
@@ -194,15 +253,38 @@ static void north_comes_back(void)
            "north is turned away");
 }
 
+static void the_daemon_restarts(void)
+{
+    uint8_t records[SESSIONS][TACIT_RECORD_LENGTH];
+    const struct tacit_totals before = totals;
+    step("The daemon restarts");
+    store(records);
+    memset(row, 0, sizeof row);
+    memset(&totals, 0, sizeof totals);
+    load(records);
+    puts("   The records were kept, and the totals not: they are counted anew from the row.");
+    expect(memcmp(&totals, &before, sizeof totals) == 0, "the totals are as before");
+    batch(TACIT_KIND_IPV4_PREFIX);
+    batch(TACIT_KIND_GENERALIZED_PWID);
+    puts("   The connections are gone, so each session that was Open is closed.");
+    for (size_t at = 0; at < SESSIONS; at++)
+        if (row[at].state == TACIT_OPEN)
+            expect(close_connection(at).refusal == 0, "it is closed");
+    expect(batch(TACIT_KIND_IPV4_PREFIX) == 0, "nobody may get IPv4 prefixes");
+    expect(batch(TACIT_KIND_GENERALIZED_PWID) == 0, "nobody may get pseudowires");
+}
+
 int main(void)
 {
     begin();
     two_come_up();
     a_third_is_turned_away();
     a_pseudowire_comes_after_it();
+    batches_are_due();
     one_leaves_and_another_comes();
     a_count_passes_its_limit();
     north_comes_back();
+    the_daemon_restarts();
     if (unexpected == 0)
         puts("\nAll as expected.");
     else

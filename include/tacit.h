@@ -18,9 +18,10 @@
  * Calls on different records may run at once; calls on one record may not,
  * unless none of them writes it.
  *
- * A daemon with limits on how many sessions use an application keeps its
- * sessions in a row instead, an array of up to 64 struct tacit_session, and
- * hands the whole row to every event: see "Rows of sessions".
+ * A daemon with limits on how many sessions use an application, or one that asks
+ * before a batch of labels how many sessions may get them, keeps its sessions in
+ * a row instead, an array of up to 64 struct tacit_session with its totals beside
+ * it, and hands both to every event: see "Rows of sessions".
  *
  * Link with libtacit.a and nothing else. C11 or C++17, x86-64.
  *
@@ -47,7 +48,7 @@
  *
  * - Each pointer is good for the length that goes with it.
  * - The buffers of one call do not overlap where one of them is written: the
- *   record or the row, the area, and the room.
+ *   record or the row, the row's totals, the area, and the room.
  * - A row of sessions is aligned as C aligns an array of them.
  * - A bool is made by C: true or false, not an octet copied from elsewhere.
  */
@@ -70,8 +71,8 @@ extern "C" {
 /* ------------------------------------------------------------------------ */
 
 /* The version of this header and its library, to be compared, and for a log. */
-#define TACIT_VERSION      20000 /* 2.0.0: two digits for each number behind the first */
-#define TACIT_VERSION_TEXT "2.0.0"
+#define TACIT_VERSION      30000 /* 3.0.0: two digits for each number behind the first */
+#define TACIT_VERSION_TEXT "3.0.0"
 
 #define TACIT_RECORD_LENGTH  22   /* octets of a record */
 #define TACIT_MESSAGE_LENGTH 17   /* octets of the message of a local change */
@@ -82,6 +83,7 @@ extern "C" {
 #define TACIT_ROW_MOST       64   /* sessions that a row may have */
 #define TACIT_LIMIT_MOST     64   /* the highest limit, and the one until another is set */
 #define TACIT_APPLICATIONS   13   /* how many there are: TA-Ids 1 to 13 */
+#define TACIT_KINDS          10   /* how many there are: 0 to 9 */
 
 /*
  * Refusals. A call that asks for one gives it exactly when what stands beside it
@@ -114,7 +116,9 @@ enum tacit_refusal {
     TACIT_REFUSED_ROW         = 11, /* the row is empty or has more than 64 sessions, or
                                        the row number is outside it */
     TACIT_REFUSED_LIMIT       = 12, /* a limit to be set is over 64 */
-    TACIT_REFUSED_APP         = 15  /* not a SAC App (1 to 4) */
+    TACIT_REFUSED_APP         = 15, /* not a SAC App (1 to 4) */
+    TACIT_REFUSED_TOTAL       = 16  /* the event would take a total outside 0 to 64: the
+                                       totals are not those of this row */
 };
 
 /* What an event came to. */
@@ -366,6 +370,33 @@ struct tacit_count {
     uint8_t count;
 };
 
+/*
+ * How many sessions of a row permit each kind, kind k at of[k]. It belongs to its
+ * row: all 0 for a row of fresh sessions, from tacit_recount for a row that was
+ * loaded, and then kept up to date by every event.
+ */
+struct tacit_totals {
+    uint8_t of[TACIT_KINDS];
+};
+
+/* How many sessions of a row permit a kind. */
+struct tacit_total {
+    uint8_t refusal;
+    uint8_t total;
+};
+
+/* What an event of a row did, and its totals after it: refused, as they were handed in. */
+struct tacit_row_answer {
+    struct tacit_answer answer;
+    struct tacit_totals totals;
+};
+
+/* The totals of a row, counted anew. Refused, they are 0. */
+struct tacit_row_totals {
+    uint8_t refusal;
+    struct tacit_totals totals;
+};
+
 /* An event as numbers, for tacit_row_event; the six calls below it fill this in. */
 struct tacit_event {
     uint32_t which;   /* enum tacit_event_number */
@@ -448,6 +479,17 @@ TACIT_ASSERT(offsetof(struct tacit_limited, limits) == 1);
 TACIT_ASSERT(sizeof(struct tacit_count) == 2);
 TACIT_ASSERT(offsetof(struct tacit_count, refusal) == 0);
 TACIT_ASSERT(offsetof(struct tacit_count, count) == 1);
+TACIT_ASSERT(sizeof(struct tacit_totals) == 10);
+TACIT_ASSERT(offsetof(struct tacit_totals, of) == 0);
+TACIT_ASSERT(sizeof(struct tacit_total) == 2);
+TACIT_ASSERT(offsetof(struct tacit_total, refusal) == 0);
+TACIT_ASSERT(offsetof(struct tacit_total, total) == 1);
+TACIT_ASSERT(sizeof(struct tacit_row_answer) == 18);
+TACIT_ASSERT(offsetof(struct tacit_row_answer, answer) == 0);
+TACIT_ASSERT(offsetof(struct tacit_row_answer, totals) == 8);
+TACIT_ASSERT(sizeof(struct tacit_row_totals) == 11);
+TACIT_ASSERT(offsetof(struct tacit_row_totals, refusal) == 0);
+TACIT_ASSERT(offsetof(struct tacit_row_totals, totals) == 1);
 TACIT_ASSERT(sizeof(struct tacit_event) == 16);
 TACIT_ASSERT(offsetof(struct tacit_event, which) == 0);
 TACIT_ASSERT(offsetof(struct tacit_event, ta_id) == 4);
@@ -687,6 +729,15 @@ bool tacit_sound(const uint8_t *record, size_t record_len);
  * A session uses an application if it is Open, negotiation is in force, and the
  * application is both enabled here and listed by the peer. Limits are read only
  * when an Initialization arrives: setting one turns no open session out.
+ *
+ * With the row you keep its totals: how many of its sessions permit each kind, so
+ * that tacit_kind_total answers before a batch of labels without looking at the
+ * row. A row of fresh sessions (tacit_create, tacit_load) has totals of 0, and a
+ * fresh session put into a row changes none. Every event takes the totals and
+ * brings them up to date from the kinds that it lost and gained, so they stay
+ * equal to what a walk over the row counts. Where you change the row yourself
+ * otherwise, as by loading the records of sessions that were Open, or by taking
+ * an Open session out, count them anew by tacit_recount.
  */
 
 /* The session of a record. Refusals: 10. */
@@ -705,17 +756,48 @@ struct tacit_limited tacit_set_limit(struct tacit_limits limits, uint32_t ta_id,
 struct tacit_count tacit_row_count(const struct tacit_session *row, size_t row_len, uint32_t ta_id);
 
 /*
+ * How many sessions of the row that these totals belong to permit this kind: how
+ * many may be sent a label of it. The row is not looked at. Refusals: 6.
+ */
+struct tacit_total tacit_kind_total(struct tacit_totals totals, uint32_t kind);
+
+/*
+ * The totals counted anew by a walk over the row, for a row loaded from records.
+ * Refusals: 11, 10.
+ */
+struct tacit_row_totals tacit_recount(const struct tacit_session *row, size_t row_len);
+
+/*
  * One event of one session of the row, for any of the six; a number that is no
  * event's is refused with 7. Limits are read, and the area, only where the event
- * is one that does; the room is written only by a local change.
+ * is one that does; the room is written only by a local change. The totals of the
+ * kinds lost are one lower after it, those of the kinds gained one higher.
  *
  * Refusals: 11; 10 for any session of the row; then those of the event, in its
- * order. Refused, every field of the row and every octet of the room is as it was.
+ * order; last 16, the total of a kind that is lost or gained would come to stand
+ * outside 0 to 64. A total of any other kind is not looked at. 16 never happens
+ * to totals that are those of the row; where it does, tacit_recount mends them.
+ * Refused, every field of the row, every octet of the room and every total is as
+ * it was.
  */
-struct tacit_answer tacit_row_event(struct tacit_session *row, size_t row_len, size_t at,
-                                    struct tacit_event event, struct tacit_limits limits,
-                                    const uint8_t *area, size_t area_len, uint8_t *room,
-                                    size_t room_len);
+struct tacit_row_answer tacit_row_event(struct tacit_session *row, size_t row_len, size_t at,
+                                        struct tacit_event event, struct tacit_limits limits,
+                                        struct tacit_totals totals, const uint8_t *area,
+                                        size_t area_len, uint8_t *room, size_t room_len);
+
+/* tacit_row_event, with the totals kept where they stand. */
+static inline struct tacit_answer tacit_row_event_kept(struct tacit_session *row, size_t row_len,
+                                                       size_t at, struct tacit_event event,
+                                                       struct tacit_limits limits,
+                                                       struct tacit_totals *totals,
+                                                       const uint8_t *area, size_t area_len,
+                                                       uint8_t *room, size_t room_len)
+{
+    struct tacit_row_answer after = tacit_row_event(row, row_len, at, event, limits, *totals, area,
+                                                    area_len, room, room_len);
+    *totals = after.totals;
+    return after.answer;
+}
 
 /*
  * tacit_initialization under limits. Where negotiation is in force and there are
@@ -725,56 +807,66 @@ struct tacit_answer tacit_row_event(struct tacit_session *row, size_t row_len, s
  *
  * AT_LIMIT: there is no such application. Nothing is lost, gained or written; do
  * as after a mismatch, and go by the state.
+ *
+ * This call and the five below it keep *totals, which is not NULL, up to date.
  */
 static inline struct tacit_answer tacit_row_initialization(struct tacit_session *row,
                                                            size_t row_len, size_t at,
                                                            struct tacit_limits limits,
+                                                           struct tacit_totals *totals,
                                                            const uint8_t *area, size_t area_len)
 {
     struct tacit_event event = {TACIT_EVENT_INITIALIZATION, 0, 0, 0};
-    return tacit_row_event(row, row_len, at, event, limits, area, area_len, NULL, 0);
+    return tacit_row_event_kept(row, row_len, at, event, limits, totals, area, area_len, NULL, 0);
 }
 
 /* tacit_capability for a session of the row. */
 static inline struct tacit_answer tacit_row_capability(struct tacit_session *row, size_t row_len,
-                                                       size_t at, const uint8_t *area,
-                                                       size_t area_len)
+                                                       size_t at, struct tacit_totals *totals,
+                                                       const uint8_t *area, size_t area_len)
 {
     struct tacit_event event = {TACIT_EVENT_CAPABILITY, 0, 0, 0};
-    return tacit_row_event(row, row_len, at, event, tacit_no_limits(), area, area_len, NULL, 0);
+    return tacit_row_event_kept(row, row_len, at, event, tacit_no_limits(), totals, area, area_len,
+                                NULL, 0);
 }
 
 /* tacit_local_change for a session of the row. */
 static inline struct tacit_answer tacit_row_local_change(struct tacit_session *row, size_t row_len,
-                                                         size_t at, uint32_t ta_id, bool on,
-                                                         uint8_t *room, size_t room_len)
+                                                         size_t at, struct tacit_totals *totals,
+                                                         uint32_t ta_id, bool on, uint8_t *room,
+                                                         size_t room_len)
 {
     struct tacit_event event = {TACIT_EVENT_LOCAL_CHANGE, ta_id, on, 0};
-    return tacit_row_event(row, row_len, at, event, tacit_no_limits(), NULL, 0, room, room_len);
+    return tacit_row_event_kept(row, row_len, at, event, tacit_no_limits(), totals, NULL, 0, room,
+                                room_len);
 }
 
 /* tacit_mismatch for a session of the row. */
 static inline struct tacit_answer tacit_row_mismatch(struct tacit_session *row, size_t row_len,
-                                                     size_t at)
+                                                     size_t at, struct tacit_totals *totals)
 {
     struct tacit_event event = {TACIT_EVENT_MISMATCH, 0, 0, 0};
-    return tacit_row_event(row, row_len, at, event, tacit_no_limits(), NULL, 0, NULL, 0);
+    return tacit_row_event_kept(row, row_len, at, event, tacit_no_limits(), totals, NULL, 0, NULL,
+                                0);
 }
 
 /* tacit_hello for a session of the row. */
 static inline struct tacit_answer tacit_row_hello(struct tacit_session *row, size_t row_len,
-                                                  size_t at, uint32_t number)
+                                                  size_t at, struct tacit_totals *totals,
+                                                  uint32_t number)
 {
     struct tacit_event event = {TACIT_EVENT_HELLO, 0, 0, number};
-    return tacit_row_event(row, row_len, at, event, tacit_no_limits(), NULL, 0, NULL, 0);
+    return tacit_row_event_kept(row, row_len, at, event, tacit_no_limits(), totals, NULL, 0, NULL,
+                                0);
 }
 
 /* tacit_closed for a session of the row. */
 static inline struct tacit_answer tacit_row_closed(struct tacit_session *row, size_t row_len,
-                                                   size_t at)
+                                                   size_t at, struct tacit_totals *totals)
 {
     struct tacit_event event = {TACIT_EVENT_CLOSED, 0, 0, 0};
-    return tacit_row_event(row, row_len, at, event, tacit_no_limits(), NULL, 0, NULL, 0);
+    return tacit_row_event_kept(row, row_len, at, event, tacit_no_limits(), totals, NULL, 0, NULL,
+                                0);
 }
 
 /* tacit_permitted_kinds of a session by itself. Refusals: 10. */
@@ -837,6 +929,7 @@ static inline const char *tacit_refusal_text(uint32_t refusal)
     case TACIT_REFUSED_ROW: return "row empty or over 64 sessions, or row number outside it";
     case TACIT_REFUSED_LIMIT: return "limit over 64";
     case TACIT_REFUSED_APP: return "no SAC App";
+    case TACIT_REFUSED_TOTAL: return "total outside 0 to 64: the totals are not those of the row";
     default: return "unknown";
     }
 }

@@ -178,6 +178,17 @@ static const char *const areas_of_rows[] = {
     "850F0005 80 00048000 06000000",
 };
 
+/* Numbers about the limits of a total, and now and then any other. */
+static struct tacit_totals any_totals(void)
+{
+    static const uint8_t numbers[] = {0, 1, 2, 62, 63, 64, 65, 66};
+    struct tacit_totals totals;
+    for (uint32_t kind = 0; kind < TACIT_KINDS; kind++)
+        totals.of[kind] = any_number() % 8 == 0 ? (uint8_t)any_number()
+                                                : numbers[any_number() % sizeof numbers];
+    return totals;
+}
+
 /* Any event at this session, with limits of 0 to 3, and now and then of any number. */
 static struct tacit_answer any_event(struct sessions *row, size_t at)
 {
@@ -219,6 +230,7 @@ static void sessions(void)
                 struct sessions two = {.length = 2};
                 two.at[value % 2] = session_in(&damaged);
                 two.at[1 - value % 2] = session_in(&other);
+                two.totals = value % 3 == 0 ? any_totals() : recount(&two).totals;
                 any_event(&two, value / 2 % 2);
             }
         }
@@ -233,17 +245,20 @@ static void sessions_without_order(void)
         for (size_t at = 4; at < TACIT_RECORD_LENGTH; at++)
             record.octets[at] = (uint8_t)any_number();
         record.octets[13] = 0;
-        struct sessions row = {.at = {session_in(&record)}, .length = 1};
+        struct sessions row = {
+            .at = {session_in(&record)}, .length = 1, .totals = any_totals()};
         struct record copy = {{7}, TACIT_RECORD_LENGTH};
         store(row.at[0], &copy);
         any_event(&row, 0);
         row_count(&row, any_number() % 15);
+        recount(&row);
     }
 }
 
 /*
  * Long ways through all events from a row of fresh sessions of every sort. Each
- * count is how often a session gained the application less how often one lost it.
+ * count is how often a session gained the application less how often one lost it,
+ * and the totals are what a walk counts.
  */
 static void long_ways_of_rows(void)
 {
@@ -265,6 +280,7 @@ static void long_ways_of_rows(void)
         uint32_t before = used(row.at[at]);
         struct tacit_answer answer = any_event(&row, at);
         CHECK((answer.refusal == 11) == (at == row.length) && answer.refusal != 10);
+        CHECK(answer.refusal != 16 && same_totals(row.totals, walked(&row)));
         outcomes[answer.outcome % 4]++;
         uint32_t after = used(row.at[at]), ta_id = (uint32_t)step % TACIT_APPLICATIONS + 1;
         for (uint32_t each = 1; each <= TACIT_APPLICATIONS; each++)

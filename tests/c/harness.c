@@ -486,6 +486,7 @@ int main(void)
     examples();
     rules();
     rows();
+    totals();
     wishes();
     refusals();
     lengths();
@@ -498,6 +499,7 @@ int main(void)
     examples();
     rules();
     rows();
+    totals();
     wishes();
     refusals();
     lengths();

@@ -29,7 +29,7 @@ enum side { GUARD_BEHIND, GUARD_BEFORE };
 void lend_with(enum side side, bool empty_is_null);
 
 /* For the wrappers: a buffer with this content, one at a time in each place. */
-enum place { RECORD, AREA, ROOM, ROW, PLACES };
+enum place { RECORD, AREA, ROOM, ROW, TOTALS, PLACES };
 uint8_t *lend(enum place place, const uint8_t *content, size_t length);
 
 /* Are the octets beside a buffer of this length as they were? */
@@ -93,9 +93,11 @@ uint32_t kinds(const struct record *record);
 
 #define SESSIONS_MOST 72 /* more than a row may have */
 
+/* A row, and the totals that are kept with it: 0 unless they are set. */
 struct sessions {
     struct tacit_session at[SESSIONS_MOST];
     size_t length;
+    struct tacit_totals totals;
 };
 
 bool same_session(struct tacit_session a, struct tacit_session b);
@@ -111,6 +113,13 @@ struct tacit_loaded load(const struct record *record);
 uint8_t store(struct tacit_session session, struct record *record);
 struct tacit_limited set_limit(struct tacit_limits limits, uint32_t ta_id, uint32_t limit);
 struct tacit_count row_count(const struct sessions *row, uint32_t ta_id);
+struct tacit_total kind_total(struct tacit_totals totals, uint32_t kind);
+struct tacit_row_totals recount(const struct sessions *row);
+
+bool same_totals(struct tacit_totals a, struct tacit_totals b);
+
+/* How many sessions permit each kind, by a walk that asks every one of them. */
+struct tacit_totals walked(const struct sessions *row);
 
 /* What a row's event is given beside the row. */
 struct row_call {
@@ -126,7 +135,8 @@ struct row_call {
 /*
  * Makes the call twice, by tacit_row_event and by the event's own name, each time
  * with other octets as padding. Both must come to what the call for a record
- * comes to, with the limits held to, and touch nothing else.
+ * comes to, with the limits held to and the row's totals moved, and touch nothing
+ * else.
  */
 struct tacit_answer row_event(struct sessions *row, struct row_call call);
 
@@ -167,6 +177,7 @@ uint32_t any_number(void);
 void examples(void);
 void rules(void);
 void rows(void);
+void totals(void);
 void wishes(void);
 void refusals(void);
 void lengths(void);

@@ -49,24 +49,31 @@ static void nothing_at_all(void)
 static void no_row_at_all(void)
 {
     const struct tacit_limits limits = tacit_no_limits();
+    const struct tacit_totals found = {{0, 1, 63, 64, 65, 66, 200, 255, 2, 3}};
+    struct tacit_totals totals = found;
     struct tacit_session session = {.flags = TACIT_FLAG_USES_TAC, .enabled = APP(7)};
     CHECK(tacit_load(NULL, 0).refusal == 10);
     CHECK(tacit_load(NULL, 0).session.state == TACIT_NO_STATE);
     CHECK(tacit_store(session, NULL, 0) == 10);
     CHECK(tacit_row_count(NULL, 0, 1).refusal == 11);
-    CHECK(tacit_row_initialization(NULL, 0, 0, limits, NULL, 0).refusal == 11);
-    CHECK(tacit_row_capability(NULL, 0, 0, NULL, 0).refusal == 11);
-    CHECK(tacit_row_local_change(NULL, 0, 0, 1, true, NULL, 0).refusal == 11);
-    CHECK(tacit_row_mismatch(NULL, 0, 0).refusal == 11);
-    CHECK(tacit_row_hello(NULL, 0, 0, 1).refusal == 11);
-    CHECK(tacit_row_closed(NULL, 0, 0).refusal == 11);
+    CHECK(tacit_recount(NULL, 0).refusal == 11);
+    CHECK(tacit_row_initialization(NULL, 0, 0, limits, &totals, NULL, 0).refusal == 11);
+    CHECK(tacit_row_capability(NULL, 0, 0, &totals, NULL, 0).refusal == 11);
+    CHECK(tacit_row_local_change(NULL, 0, 0, &totals, 1, true, NULL, 0).refusal == 11);
+    CHECK(tacit_row_mismatch(NULL, 0, 0, &totals).refusal == 11);
+    CHECK(tacit_row_hello(NULL, 0, 0, &totals, 1).refusal == 11);
+    CHECK(tacit_row_closed(NULL, 0, 0, &totals).refusal == 11);
+    CHECK(same_totals(totals, found));
 
-    CHECK(tacit_row_local_change(&session, 1, 0, 6, true, NULL, 0).outcome == TACIT_DONE);
-    CHECK(tacit_row_initialization(&session, 1, 0, limits, NULL, 0).outcome == TACIT_DONE);
-    CHECK(tacit_row_capability(&session, 1, 0, NULL, 0).outcome == TACIT_DONE);
-    CHECK(tacit_row_local_change(&session, 1, 0, 7, false, NULL, 0).refusal == 9);
+    totals = tacit_recount(&session, 1).totals;
+    CHECK(tacit_row_local_change(&session, 1, 0, &totals, 6, true, NULL, 0).outcome == TACIT_DONE);
+    CHECK(tacit_row_initialization(&session, 1, 0, limits, &totals, NULL, 0).outcome ==
+          TACIT_DONE);
+    CHECK(tacit_row_capability(&session, 1, 0, &totals, NULL, 0).outcome == TACIT_DONE);
+    CHECK(tacit_row_local_change(&session, 1, 0, &totals, 7, false, NULL, 0).refusal == 9);
     CHECK(tacit_session_wish(&session, 0, 1, true, NULL, 0).answer.refusal == 9);
     CHECK(session.state == TACIT_OPEN && session.enabled == (APP(6) | APP(7)));
+    CHECK(totals.of[0] == 1 && same_totals(totals, tacit_recount(&session, 1).totals));
 }
 
 /* A sound record, cut or with octets behind it, in every call. */
@@ -117,6 +124,8 @@ static void rows_of_sessions(void)
         CHECK(row_count(&row, 7).refusal == (right ? 0 : 11));
         CHECK(row_count(&row, 7).count == (right ? row.length : 0));
         CHECK(row_count(&row, 4).count == 0);
+        CHECK(recount(&row).refusal == (right ? 0 : 11));
+        CHECK(recount(&row).totals.of[8] == (right ? row.length : 0));
         const size_t numbers[] = {0,  1,  row.length / 2, row.length - 1, row.length,
                                   63, 64, 65,             SIZE_MAX};
         for (size_t i = 0; i < sizeof numbers / sizeof *numbers; i++) {
@@ -134,6 +143,7 @@ static void rows_far_over(void)
     static struct tacit_session fresh_row[65537];
     static const size_t lengths[] = {65, 256, 257, 320, 65536, 65537};
     const struct tacit_limits limits = tacit_no_limits();
+    struct tacit_totals totals = {{0}};
     for (size_t i = 0; i < 2 * sizeof lengths / sizeof *lengths; i++) {
         size_t length = lengths[i / 2], size = length * sizeof *fresh_row;
         trying("a row of %zu sessions", length);
@@ -141,9 +151,11 @@ static void rows_far_over(void)
         const uint8_t *octets = (const uint8_t *)fresh_row;
         struct tacit_session *row = (void *)lend(ROW, octets, size);
         CHECK(tacit_row_count(row, length, 1).refusal == 11);
-        CHECK(tacit_row_hello(row, length, 0, 1).refusal == 11);
-        CHECK(tacit_row_initialization(row, length, length - 1, limits, NULL, 0).refusal == 11);
-        CHECK(tacit_row_mismatch(row, length, length).refusal == 11);
+        CHECK(tacit_recount(row, length).refusal == 11);
+        CHECK(tacit_row_hello(row, length, 0, &totals, 1).refusal == 11);
+        CHECK(tacit_row_initialization(row, length, length - 1, limits, &totals, NULL, 0).refusal ==
+              11);
+        CHECK(tacit_row_mismatch(row, length, length, &totals).refusal == 11);
         CHECK(margin_kept(ROW, size));
         CHECK(row[0].state == TACIT_READY && row[0].flags == 0 && row[0].hello == 0);
         CHECK(row[length - 1].state == fresh_row[length - 1].state);
@@ -178,6 +190,7 @@ static void areas(void)
         CHECK(capability(&record, area, length).refusal == wanted);
         struct sessions row = {.length = 2};
         row.at[0] = row.at[1] = session_in(&record);
+        row.totals = walked(&row);
         struct row_call call = {.at = 1,
                                 .event = {.which = TACIT_EVENT_CAPABILITY},
                                 .area = area,
@@ -376,18 +389,20 @@ static void rows_beyond_32_bits(void)
     uint8_t *record = octets, *area = octets + 1024, *room = octets + 2048;
     const size_t right = TACIT_RECORD_LENGTH;
     const struct tacit_limits limits = tacit_no_limits();
+    struct tacit_totals totals = {{0}};
     struct tacit_session session = {.flags = TACIT_FLAG_USES_TAC, .enabled = APP(7)};
     CHECK(tacit_store(session, record, more + right) == 10 && record[0] == 0);
     CHECK(tacit_store(session, record, right) == 0);
     CHECK(tacit_load(record, more + right).refusal == 10);
 
-    CHECK(tacit_row_hello(&session, 1, more, 1).refusal == 11);
-    CHECK(tacit_row_initialization(&session, 1, 0, limits, area, more).refusal == 1);
+    CHECK(tacit_row_hello(&session, 1, more, &totals, 1).refusal == 11);
+    CHECK(tacit_row_initialization(&session, 1, 0, limits, &totals, area, more).refusal == 1);
     struct octets opening = hex(dynamic_fec129);
-    CHECK(tacit_row_initialization(&session, 1, 0, limits, opening.at, opening.length).outcome ==
-          TACIT_DONE);
-    CHECK(tacit_row_capability(&session, 1, 0, area, more).refusal == 1);
-    struct tacit_answer answer = tacit_row_local_change(&session, 1, 0, 4, true, room, more);
+    CHECK(tacit_row_initialization(&session, 1, 0, limits, &totals, opening.at, opening.length)
+              .outcome == TACIT_DONE);
+    CHECK(tacit_row_capability(&session, 1, 0, &totals, area, more).refusal == 1);
+    struct tacit_answer answer =
+        tacit_row_local_change(&session, 1, 0, &totals, 4, true, room, more);
     CHECK(answer.refusal == 0 && answer.written == 17);
     CHECK(room[16] == 0 && room[15] == 0x80 && room[17] == 0);
     CHECK(session.hello == 0 && session.next == 1);

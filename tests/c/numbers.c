@@ -62,6 +62,18 @@ static void kinds_of_label(void)
     }
 }
 
+/* All ten are different, so that the total of another kind is noticed. */
+static void totals_of_kinds(void)
+{
+    const struct tacit_totals totals = {{10, 21, 32, 43, 54, 65, 76, 187, 198, 255}};
+    for (unsigned i = 0; i < NUMBERS; i++) {
+        uint32_t kind = number(i);
+        trying("the total of kind %lu", (unsigned long)kind);
+        CHECK(kind_total(totals, kind).refusal == (kind <= 9 ? 0 : 6));
+        CHECK(kind_total(totals, kind).total == (kind <= 9 ? totals.of[kind] : 0));
+    }
+}
+
 /* The numbers of Apps and of TA-Ids: only four of the thirteen are an App's. */
 static void sac_apps(void)
 {
@@ -259,7 +271,9 @@ static const char both[] = "85060001 80 850F0009 80 00048000 00078000";
 static struct sessions two_open(void)
 {
     struct record record = opened(APP(4) | APP(7), both);
-    struct sessions row = {.at = {session_in(&record), session_in(&record)}, .length = 2};
+    struct sessions row = {.at = {session_in(&record), session_in(&record)},
+                           .length = 2,
+                           .totals = {.of = {[0] = 2, [8] = 2}}};
     return row;
 }
 
@@ -347,9 +361,11 @@ static void fields_of_events(void)
 {
     static const struct tacit_limits limits = {
         {21, 22, 23, 24, 25, 26, 27, 28, 29, 30, 31, 32, 33}};
+    struct tacit_totals totals = {{41, 42, 43, 44, 45, 46, 47, 48, 49, 50}};
     struct octets area = hex("850D0002 80 90");
     uint8_t room[19] = {0};
     struct sessions row = two_open();
+    row.totals = totals;
     struct row_call call = {.at = 1,
                             .event = {TACIT_EVENT_HELLO, 0x0B0C0D0E, 0x1B1C1D1E, 0x2B2C2D2E},
                             .limits = limits,
@@ -359,14 +375,18 @@ static void fields_of_events(void)
                             .room_length = sizeof room};
     CHECK(row_event(&row, call).outcome == TACIT_DONE);
     CHECK(row.at[1].hello == 0x2B2C2D2E && row.at[1].enabled == (APP(4) | APP(7)));
+    CHECK(same_totals(row.totals, totals));
     call.event.which = TACIT_EVENT_CAPABILITY;
     CHECK(row_event(&row, call).lost == TACIT_KIND_SET(0));
     CHECK(row.at[1].disabled == 1 && room[0] == 0);
+    totals.of[0] = 40;
+    CHECK(same_totals(row.totals, totals));
     call.event.which = TACIT_EVENT_LOCAL_CHANGE;
     call.event.ta_id = 10;
     CHECK(row_event(&row, call).written == 17);
     CHECK(row.at[1].enabled == (APP(4) | APP(7) | APP(10)) && room[14] == 10);
     CHECK(row.at[1].hello == 0x2B2C2D2E && row.at[1].next == 2 && row.at[0].next == 1);
+    CHECK(same_totals(row.totals, totals));
 }
 
 /* Writes an area that lists the TA-Ids from first to last. */
@@ -431,6 +451,7 @@ void numbers(void)
 {
     test("TA-Ids of all 32 bits", applications);
     test("kinds of all 32 bits", kinds_of_label);
+    test("kinds of all 32 bits, of totals", totals_of_kinds);
     test("SAC Apps of all 32 bits", sac_apps);
     test("wishes of all 32 bits", kept_wishes);
     test("sets of all 32 bits", sets);

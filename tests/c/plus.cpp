@@ -1,4 +1,4 @@
-// The header in C++17, its assertions on sizes included, with a session, a row and a wish through it.
+// The header in C++17, its assertions on sizes included: a session, a row with totals, a wish.
 #include "tacit.h"
 
 #include <cstring>
@@ -19,29 +19,45 @@ static bool one_session(uint8_t *record, size_t record_len)
            std::strcmp(tacit_outcome_text(answer.outcome), "done") == 0;
 }
 
+// How many sessions may get a kind: by the totals, and by a walk over the row.
+static bool total_is(const tacit_session *row, tacit_totals totals, uint8_t total)
+{
+    const uint32_t kind = TACIT_KIND_GENERALIZED_PWID;
+    const tacit_row_totals walk = tacit_recount(row, 2);
+    return walk.refusal == 0 && std::memcmp(&walk.totals, &totals, sizeof totals) == 0 &&
+           tacit_kind_total(totals, kind).total == total &&
+           tacit_kind_total(totals, TACIT_KINDS).refusal == TACIT_REFUSED_NUMBER;
+}
+
 // Of two sessions one is let in, then the other, when the first is closed.
 static bool one_row(const uint8_t *record, size_t record_len)
 {
     const tacit_session fresh = tacit_load(record, record_len).session;
     tacit_session row[] = {fresh, fresh};
+    tacit_totals totals{};
     const tacit_limits limits = tacit_set_limit(tacit_no_limits(), TACIT_APP_FEC129_PW, 1).limits;
     uint8_t room[TACIT_MESSAGE_LENGTH];
     for (size_t at = 0; at < 2; at++) {
         const tacit_answer answer =
-            tacit_row_initialization(row, 2, at, limits, area, sizeof area);
+            tacit_row_initialization(row, 2, at, limits, &totals, area, sizeof area);
         if (answer.outcome != (at == 0 ? TACIT_DONE : TACIT_AT_LIMIT))
             return false;
     }
-    if (tacit_row_count(row, 2, TACIT_APP_FEC129_PW).count != 1 ||
-        tacit_session_retry(row[1]).interval != 65535 || tacit_row_hello(row, 2, 1, 1).refusal != 0)
+    if (tacit_row_count(row, 2, TACIT_APP_FEC129_PW).count != 1 || !total_is(row, totals, 1) ||
+        tacit_session_retry(row[1]).interval != 65535 ||
+        tacit_row_hello(row, 2, 1, &totals, 1).refusal != 0)
         return false;
-    if (tacit_row_capability(row, 2, 0, area, sizeof area).refusal != 0 ||
-        tacit_row_closed(row, 2, 0).lost != TACIT_KIND_SET(TACIT_KIND_GENERALIZED_PWID) ||
-        tacit_row_local_change(row, 2, 1, 4, true, room, sizeof room).outcome != TACIT_DONE)
+    if (tacit_row_capability(row, 2, 0, &totals, area, sizeof area).refusal != 0 ||
+        tacit_row_closed(row, 2, 0, &totals).lost != TACIT_KIND_SET(TACIT_KIND_GENERALIZED_PWID) ||
+        !total_is(row, totals, 0))
         return false;
-    return tacit_row_initialization(row, 2, 1, limits, area, sizeof area).outcome == TACIT_DONE &&
-           tacit_session_kinds(row[1]).kinds == TACIT_KIND_SET(TACIT_KIND_GENERALIZED_PWID) &&
-           tacit_row_mismatch(row, 2, 1).outcome == TACIT_MISMATCH;
+    if (tacit_row_local_change(row, 2, 1, &totals, 4, true, room, sizeof room).refusal != 0 ||
+        tacit_row_initialization(row, 2, 1, limits, &totals, area, sizeof area).refusal != 0)
+        return false;
+    return tacit_session_kinds(row[1]).kinds == TACIT_KIND_SET(TACIT_KIND_GENERALIZED_PWID) &&
+           total_is(row, totals, 1) &&
+           tacit_row_mismatch(row, 2, 1, &totals).outcome == TACIT_MISMATCH &&
+           total_is(row, totals, 0);
 }
 
 // A wish in a message, then all wishes in an Initialization, by record and by session.

@@ -1,10 +1,13 @@
 /*
  * The calls for sessions and rows, each in a wrapper. What an event of a row must
- * come to is worked out by the call for a record; only the limits are added here.
+ * come to is worked out by the call for a record; the limits and the totals are
+ * added here.
  */
 #include "harness.h"
 
 #include <string.h>
+
+#define ROOM_MOST 64
 
 /* ---- Sessions ---- */
 
@@ -189,6 +192,45 @@ struct tacit_count row_count(const struct sessions *row, uint32_t ta_id)
     return answer;
 }
 
+/* ---- Totals ---- */
+
+bool same_totals(struct tacit_totals a, struct tacit_totals b)
+{
+    return memcmp(a.of, b.of, sizeof a.of) == 0;
+}
+
+struct tacit_totals walked(const struct sessions *row)
+{
+    struct tacit_totals totals = {{0}};
+    for (size_t i = 0; i < row->length; i++) {
+        uint32_t set = tacit_session_kinds(row->at[i]).kinds;
+        for (uint32_t kind = 0; kind < TACIT_KINDS; kind++)
+            totals.of[kind] += (uint8_t)(set >> kind & 1);
+    }
+    return totals;
+}
+
+struct tacit_total kind_total(struct tacit_totals totals, uint32_t kind)
+{
+    struct tacit_total answer = tacit_kind_total(totals, kind);
+    CHECK(answer.refusal == (kind > 9 ? TACIT_REFUSED_NUMBER : 0));
+    CHECK(answer.total == (kind > 9 ? 0 : totals.of[kind]));
+    return answer;
+}
+
+struct tacit_row_totals recount(const struct sessions *row)
+{
+    const struct tacit_totals none = {{0}};
+    const uint8_t padding = 0xA5;
+    uint8_t wanted = refusal_of_row(row, 0);
+    struct tacit_session *lent = lend_row(row, padding);
+    struct tacit_row_totals answer = tacit_recount(lent, row->length);
+    CHECK(row_is(lent, row, SIZE_MAX, padding));
+    CHECK(answer.refusal == wanted);
+    CHECK(same_totals(answer.totals, wanted == 0 ? walked(row) : none));
+    return answer;
+}
+
 /* ---- What an event must come to ---- */
 
 static struct tacit_answer refused(uint8_t refusal)
@@ -232,9 +274,9 @@ static bool turned_away(const struct sessions *row, uint32_t common, struct taci
     return common != 0;
 }
 
-/* The answer wanted; the row and the room become what they must be afterwards. */
-static struct tacit_answer wanted_of(struct sessions *row, const struct row_call *call,
-                                     uint8_t *room)
+/* What happens where no total stands in the way. */
+static struct tacit_answer happens(struct sessions *row, const struct row_call *call,
+                                   uint8_t *room)
 {
     uint8_t refusal = refusal_of_row(row, call->at);
     if (refusal != 0)
@@ -252,36 +294,69 @@ static struct tacit_answer wanted_of(struct sessions *row, const struct row_call
     return answer;
 }
 
+/* One lower for a kind lost, one higher for a kind gained; or false, outside 0 to 64. */
+static bool moved(struct tacit_totals *totals, struct tacit_answer answer)
+{
+    for (uint32_t kind = 0; kind < TACIT_KINDS; kind++) {
+        int lost = answer.lost >> kind & 1, gained = answer.gained >> kind & 1;
+        int total = totals->of[kind] - lost + gained;
+        if (lost + gained != 0 && (total < 0 || total > 64))
+            return false;
+        totals->of[kind] = (uint8_t)total;
+    }
+    return true;
+}
+
+/* The answer wanted; the row, its totals and the room become what they must be afterwards. */
+static struct tacit_answer wanted_of(struct sessions *row, const struct row_call *call,
+                                     uint8_t *room)
+{
+    struct sessions after = *row;
+    uint8_t written[ROOM_MOST];
+    memcpy(written, room, sizeof written);
+    struct tacit_answer answer = happens(&after, call, written);
+    if (!moved(&after.totals, answer))
+        return refused(TACIT_REFUSED_TOTAL);
+    *row = after;
+    memcpy(room, written, sizeof written);
+    return answer;
+}
+
 /* ---- Events ---- */
 
 static struct tacit_answer by_number(const struct row_call *call, struct tacit_session *row,
-                                     size_t length, const uint8_t *area, uint8_t *room)
+                                     size_t length, struct tacit_totals *totals,
+                                     const uint8_t *area, uint8_t *room)
 {
-    return tacit_row_event(row, length, call->at, call->event, call->limits, area,
-                           call->area_length, room, call->room_length);
+    struct tacit_row_answer after =
+        tacit_row_event(row, length, call->at, call->event, call->limits, *totals, area,
+                        call->area_length, room, call->room_length);
+    *totals = after.totals;
+    return after.answer;
 }
 
 static struct tacit_answer by_name(const struct row_call *call, struct tacit_session *row,
-                                   size_t length, const uint8_t *area, uint8_t *room)
+                                   size_t length, struct tacit_totals *totals,
+                                   const uint8_t *area, uint8_t *room)
 {
     const struct tacit_event *event = &call->event;
     switch (event->which) {
     case TACIT_EVENT_INITIALIZATION:
-        return tacit_row_initialization(row, length, call->at, call->limits, area,
+        return tacit_row_initialization(row, length, call->at, call->limits, totals, area,
                                         call->area_length);
     case TACIT_EVENT_CAPABILITY:
-        return tacit_row_capability(row, length, call->at, area, call->area_length);
+        return tacit_row_capability(row, length, call->at, totals, area, call->area_length);
     case TACIT_EVENT_LOCAL_CHANGE:
-        return tacit_row_local_change(row, length, call->at, event->ta_id, event->on != 0, room,
-                                      call->room_length);
+        return tacit_row_local_change(row, length, call->at, totals, event->ta_id, event->on != 0,
+                                      room, call->room_length);
     case TACIT_EVENT_MISMATCH:
-        return tacit_row_mismatch(row, length, call->at);
+        return tacit_row_mismatch(row, length, call->at, totals);
     case TACIT_EVENT_HELLO:
-        return tacit_row_hello(row, length, call->at, event->number);
+        return tacit_row_hello(row, length, call->at, totals, event->number);
     case TACIT_EVENT_CLOSED:
-        return tacit_row_closed(row, length, call->at);
+        return tacit_row_closed(row, length, call->at, totals);
     default:
-        return by_number(call, row, length, area, room);
+        return by_number(call, row, length, totals, area, room);
     }
 }
 
@@ -294,7 +369,7 @@ static bool same_answer(struct tacit_answer a, struct tacit_answer b)
 struct tacit_answer row_event(struct sessions *row, struct row_call call)
 {
     struct sessions after = *row;
-    uint8_t room[64];
+    uint8_t room[ROOM_MOST] = {0};
     size_t room_length = call.room_length;
     CHECK(room_length <= sizeof room);
     if (room_length != 0)
@@ -303,11 +378,14 @@ struct tacit_answer row_event(struct sessions *row, struct row_call call)
     for (int turn = 0; turn < 2; turn++) {
         uint8_t padding = turn == 0 ? 0x00 : 0xFF;
         struct tacit_session *lent = lend_row(row, padding);
+        struct tacit_totals *totals = (void *)lend(TOTALS, row->totals.of, sizeof row->totals);
         uint8_t *lent_area = lend(AREA, call.area, call.area_length);
         uint8_t *lent_room = lend(ROOM, call.room, room_length);
-        answer = (turn == 0 ? by_number : by_name)(&call, lent, row->length, lent_area, lent_room);
+        answer = (turn == 0 ? by_number : by_name)(&call, lent, row->length, totals, lent_area,
+                                                   lent_room);
         CHECK(same_answer(answer, wanted));
         CHECK(row_is(lent, &after, call.at, padding));
+        CHECK(same_totals(*totals, after.totals) && margin_kept(TOTALS, sizeof *totals));
         CHECK(same(lent_area, call.area, call.area_length) && margin_kept(AREA, call.area_length));
         CHECK(same(lent_room, room, room_length) && margin_kept(ROOM, room_length));
     }

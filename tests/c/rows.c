@@ -349,7 +349,7 @@ static void expect_unsound(struct tacit_session session)
     for (size_t place = 0; place < 3; place++) {
         struct sessions row = responders(3);
         row.at[place] = session;
-        CHECK(row_count(&row, 4).refusal == 10);
+        CHECK(row_count(&row, 4).refusal == 10 && recount(&row).refusal == 10);
         for (uint32_t which = 0; which < 7; which++) {
             struct row_call call = {.at = 1, .event = {which, 5, 1, 9}};
             CHECK(row_event(&row, call).refusal == 10);
@@ -421,17 +421,22 @@ static void neighbours(void)
     memcpy(all, before, sizeof all);
     /* Two in the row use 4; with those around it there would be four, or no sound row. */
     CHECK(tacit_row_count(row, 3, 4).count == 2);
+    struct tacit_totals totals = tacit_recount(row, 3).totals;
+    CHECK(totals.of[0] == 2 && totals.of[8] == 0);
     struct octets area = hex(lists_4);
     struct tacit_limits limits = limits_of(3, 0);
-    CHECK(tacit_row_initialization(row, 3, 0, limits, area.at, area.length).outcome == TACIT_DONE);
-    CHECK(tacit_row_count(row, 3, 4).count == 3);
-    CHECK(tacit_row_capability(row, 3, 0, area.at, area.length).outcome == TACIT_DONE);
-    CHECK(tacit_row_local_change(row, 3, 0, 5, true, room, sizeof room).written == 17);
-    CHECK(tacit_row_hello(row, 3, 0, 1).outcome == TACIT_DONE);
-    CHECK(tacit_row_closed(row, 3, 0).lost == TACIT_KIND_SET(0));
-    CHECK(tacit_row_mismatch(row, 3, 0).outcome == TACIT_MISMATCH);
-    CHECK(tacit_row_hello(row, 3, 3, 1).refusal == 11);
-    CHECK(tacit_row_hello(row, 3, SIZE_MAX, 1).refusal == 11);
+    CHECK(tacit_row_initialization(row, 3, 0, limits, &totals, area.at, area.length).outcome ==
+          TACIT_DONE);
+    CHECK(tacit_row_count(row, 3, 4).count == 3 && totals.of[0] == 3);
+    CHECK(tacit_row_capability(row, 3, 0, &totals, area.at, area.length).outcome == TACIT_DONE);
+    CHECK(tacit_row_local_change(row, 3, 0, &totals, 5, true, room, sizeof room).written == 17);
+    CHECK(tacit_row_hello(row, 3, 0, &totals, 1).outcome == TACIT_DONE);
+    CHECK(totals.of[0] == 3);
+    CHECK(tacit_row_closed(row, 3, 0, &totals).lost == TACIT_KIND_SET(0));
+    CHECK(tacit_row_mismatch(row, 3, 0, &totals).outcome == TACIT_MISMATCH);
+    CHECK(tacit_row_hello(row, 3, 3, &totals, 1).refusal == 11);
+    CHECK(tacit_row_hello(row, 3, SIZE_MAX, &totals, 1).refusal == 11);
+    CHECK(same_totals(totals, tacit_recount(row, 3).totals) && totals.of[0] == 2);
     for (size_t i = 0; i < 6; i++)
         CHECK(i == 1 || same_session(all[i], before[i]));
     CHECK(row[0].state == TACIT_READY && row[0].hello == 1 && row[0].next == 2);

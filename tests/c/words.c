@@ -27,7 +27,7 @@ static void expect_texts(const char *(*text)(uint32_t), uint32_t set)
 
 static void texts(void)
 {
-    expect_texts(tacit_refusal_text, from_to(0, 12) | from_to(15, 15));
+    expect_texts(tacit_refusal_text, from_to(0, 12) | from_to(15, 16));
     expect_texts(tacit_outcome_text, from_to(0, 3));
     expect_texts(tacit_state_text, from_to(0, 3));
     expect_texts(tacit_why_text, from_to(0, 4));
@@ -37,6 +37,8 @@ static void texts(void)
     CHECK(strcmp(tacit_refusal_text(8), "too little room for what is to be written") == 0);
     CHECK(strcmp(tacit_refusal_text(12), "limit over 64") == 0);
     CHECK(strcmp(tacit_refusal_text(15), "no SAC App") == 0);
+    CHECK(strcmp(tacit_refusal_text(16),
+                 "total outside 0 to 64: the totals are not those of the row") == 0);
     CHECK(strcmp(tacit_outcome_text(3), "at the limit") == 0);
     CHECK(strcmp(tacit_why_text(2), "disabled by the peer") == 0);
     CHECK(strcmp(tacit_kind_text(8), "Generalized PWid") == 0);
@@ -49,6 +51,7 @@ static void texts(void)
 static void names(void)
 {
     CHECK(TACIT_REFUSED_ROW == 11 && TACIT_REFUSED_LIMIT == 12 && TACIT_REFUSED_APP == 15);
+    CHECK(TACIT_REFUSED_TOTAL == 16 && TACIT_KINDS == 10);
     CHECK(TACIT_AT_LIMIT == 3);
     CHECK(TACIT_PERMITTED == 0 && TACIT_NOT_OPEN == 1 && TACIT_DISABLED_BY_PEER == 2);
     CHECK(TACIT_NOT_ENABLED == 3 && TACIT_NOT_LISTED == 4);
@@ -127,6 +130,8 @@ static void answer_lines(void)
     expect_line((struct tacit_answer){0, 0, 0, 0, 10}, "done; 10 octets written");
     expect_line((struct tacit_answer){0, 0, 0, 0, 14}, "done; 14 octets written");
     expect_line((struct tacit_answer){15, 0, 0, 0, 0}, "refused, number 15: no SAC App");
+    expect_line((struct tacit_answer){16, 0, 0, 0, 0},
+                "refused, number 16: total outside 0 to 64: the totals are not those of the row");
 }
 
 /* Every refusal and every outcome there can be, by the texts of their numbers. */

@@ -15,7 +15,7 @@
  *
  * Numbers have the octets of their types, the least significant first. A buffer is
  * a length in octets, four of them, then these. A row is the fields of its sessions;
- * one session is its fields without a length.
+ * one struct that is lent is its fields without a length.
  *
  * Every call is made twice: with each buffer between guard octets, then with
  * each buffer in front of a page that cannot be touched. Both must come to the
@@ -28,10 +28,10 @@
 
 enum { LENGTH = 4 }; /* octets of a length */
 
-/* Octets of the length that stands before a buffer: one session has none. */
+/* Octets of the length that stands before a buffer: one struct has none. */
 static int before(int buffer)
 {
-    return buffer == ONE ? 0 : LENGTH;
+    return single[buffer] != 0 ? 0 : LENGTH;
 }
 
 #ifdef PLAIN
@@ -80,7 +80,9 @@ static bool take_flag(struct source *source)
 
 static struct octets take_buffer(struct source *source, enum buffer which)
 {
-    size_t length = which == ONE ? SESSION_OCTETS : (size_t)take_number(source, LENGTH);
+    size_t length = single[which];
+    if (length == 0)
+        length = (size_t)take_number(source, LENGTH);
     if (length > LARGEST)
         stop("a buffer is too long");
     if (of_sessions[which] && length % SESSION_OCTETS != 0)

@@ -22,6 +22,8 @@
  *                   with how many less one in bits 0 to 5 and where they are from
  *                   in bits 6 and 7 (enum origin), and what that takes. A session
  *                   in a record begins as above.
+ *   totals          none: they are those of the row at first, and then those that
+ *                   events hand back.
  *   calls           each an octet and what it takes. Bits 0 to 3 are what is done
  *                   (enum deed), bits 4 to 6 are as above, bit 7 says that the area
  *                   is made of 2 octets. A row number is an octet, modulo the
@@ -65,6 +67,9 @@ enum deed {
     STORE_AND_LOAD,     /* a session of the row, or one behind it, in a record and back */
     LOAD_OCTETS,        /* a record, whose session then stands in the row if it is sound */
     ONE_WISH,           /* a wish of a session of the row, or of one behind it */
+    ONE_TOTAL,          /* how many sessions permit a kind, by the totals */
+    WALK,               /* the totals are counted anew, if the row is one */
+    ALL_TOTALS,         /* the totals are 10 octets */
     DEEDS
 };
 
@@ -90,6 +95,7 @@ struct scene {
     size_t record_length, count;
     uint32_t wishes; /* those that are kept */
     struct tacit_limits limits;
+    struct tacit_totals totals;
     uint8_t record[MOST_RECORD], area[MOST_AREA], room[MOST_ROOM];
     uint8_t row[MOST_ROW * SESSION_OCTETS];
     uint8_t one[SESSION_OCTETS]; /* a session that is lent by itself */
@@ -473,6 +479,7 @@ static void take_row_event(struct scene *scene, uint32_t deed)
     struct given given = call_of(scene, ROW_EVENT);
     bool any = deed == ANY_EVENT;
     given.limits = scene->limits;
+    given.totals = scene->totals;
     given.at = take_row_number(scene);
     given.event.which = any ? (uint32_t)take(scene, 4) : deed;
     given.event.on = any ? (uint32_t)take(scene, 4) : scene->head >> 4 & 1;
@@ -485,6 +492,25 @@ static void take_row_event(struct scene *scene, uint32_t deed)
     if (any || deed == TACIT_EVENT_LOCAL_CHANGE)
         given.lent[ROOM] = take_room(scene);
     compare(scene, &given, said);
+    get_totals(&scene->totals, said + ANSWER_OCTETS);
+}
+
+static void total_of_kind(struct scene *scene)
+{
+    uint8_t said[SAID];
+    struct given given = call_of(scene, KIND_TOTAL);
+    given.totals = scene->totals;
+    given.kind = (uint32_t)take(scene, 4);
+    compare(scene, &given, said);
+}
+
+static void walk(struct scene *scene)
+{
+    uint8_t said[SAID];
+    struct given given = call_of(scene, RECOUNT);
+    compare(scene, &given, said);
+    if (said[0] == 0)
+        get_totals(&scene->totals, said + 1);
 }
 
 static void count_row(struct scene *scene)
@@ -557,6 +583,8 @@ static void lead_row(struct scene *scene)
     scene->limits = tacit_no_limits();
     while (scene->count < most)
         take_group(scene, most);
+    scene->totals = (struct tacit_totals){0};
+    walk(scene);
     for (int calls = 0; calls < MOST_CALLS && scene->input.length > 0; calls++) {
         scene->head = (uint8_t)take(scene, 1);
         uint8_t deed = (scene->head & 0x0F) % DEEDS;
@@ -572,8 +600,14 @@ static void lead_row(struct scene *scene)
             store_and_load(scene);
         else if (deed == LOAD_OCTETS)
             load_octets(scene);
-        else
+        else if (deed == ONE_WISH)
             wish_of_one(scene);
+        else if (deed == ONE_TOTAL)
+            total_of_kind(scene);
+        else if (deed == WALK)
+            walk(scene);
+        else
+            take_octets(scene, scene->totals.of, sizeof scene->totals.of);
     }
 }
 

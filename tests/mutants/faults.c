@@ -53,7 +53,8 @@ SIGNATURE_read(__wrap_tacit)
 
 SIGNATURE_row_event(__wrap_tacit)
 {
-    struct tacit_answer answer = __real_tacit_row_event(PASSED_row_event);
+    struct tacit_row_answer after = __real_tacit_row_event(PASSED_row_event);
+    struct tacit_answer answer = after.answer;
 #if FAULT == 9 /* writes the session in front of the row */
     if (answer.outcome == 1)
         row[-1].next ^= 1;
@@ -85,7 +86,8 @@ SIGNATURE_row_event(__wrap_tacit)
         *((uint8_t *)&row[i].hello - 2) ^= 0x55;
     }
 #endif
-    return answer;
+    after.answer = answer;
+    return after;
 }
 
 SIGNATURE_row_count(__wrap_tacit)
@@ -117,6 +119,19 @@ SIGNATURE_wish_sac(__wrap_tacit)
 #if FAULT == 21 /* writes an octet behind the room */
     if (answer.written > 0 && answer.written == room_len)
         room[room_len] ^= 1;
+#endif
+    return answer;
+}
+
+SIGNATURE_recount(__wrap_tacit)
+{
+    struct tacit_row_totals answer = __real_tacit_recount(PASSED_recount);
+#if FAULT == 22 /* writes into a row that is only counted */
+    if (answer.refusal == 0)
+        ((struct tacit_session *)row)->hello ^= 1;
+#elif FAULT == 23 /* counts the session behind the row too */
+    if (answer.refusal == 0)
+        answer.totals.of[0] += row[row_len].state == TACIT_OPEN;
 #endif
     return answer;
 }

@@ -38,7 +38,7 @@ pub(crate) fn area_of(call: &[u8]) -> &[u8] {
 }
 
 // How many octets each call has, by its number; one with an area has as many more as its second and third say.
-const LENGTHS: [usize; 21] = [
+const LENGTHS: [usize; 22] = [
     0,
     18, // create
     WITH_AREA, // initialization
@@ -60,6 +60,7 @@ const LENGTHS: [usize; 21] = [
     11, // wish
     6, // the SAC for an Initialization
     9, // wanted
+    15, // the total of a kind
 ];
 
 const WITH_AREA: usize = 3;

@@ -6,6 +6,7 @@ use row::Limits;
 use session::Answer;
 use session::Session;
 use session::Settings;
+use totals::Totals;
 
 fn create(lent: &mut [u8], call: &[u8]) {
     let roles = calls::octet(call, 1) as u16;
@@ -134,6 +135,17 @@ fn set_limit(call: &[u8]) {
     limits(after.limits);
 }
 
+fn kind_total(call: &[u8]) {
+    let mut each = [0u8; 10];
+    octets::put(
+        &mut each,
+        area::part_of(call, area::Span { start: 1, len: 10 }),
+    );
+    let t = tacit::tacit_kind_total(Totals { each }, calls::number(call, 11));
+    lines::number(t.refusal as u64);
+    lines::number(t.total as u64);
+}
+
 fn load(lent: &[u8]) {
     let l = tacit::tacit_load(lent);
     let s = l.session;
@@ -194,6 +206,7 @@ fn by_number(lent: &mut [u8], which: u8, call: &[u8]) {
         15 => set_limit(call),
         16 => load(lent),
         20 => wanted(call),
+        21 => kind_total(call),
         _ => event(lent, which, call),
     }
 }

@@ -1,7 +1,7 @@
 -- Two tests that hold together hold each, and the other way round; one that holds is enough for either. By cases on the first. Assumes nothing.
 use mathlib.Core.Path.{_≡_, refl, sym}
 use mathlib.Core.Logic.{_⊎_, inl, inr}
-use mathlib.Core.Bool.{Bool, true, false, not, _&&_, _||_, false≢true}
+use mathlib.Core.Bool.{Bool, true, false, not, _&&_, _||_, false≢true, true≢false}
 use Rattle.choice.specs.Pick.{only, unless}
 
 pub and-first : (x y : Bool) → (x && y) ≡ true → x ≡ true
@@ -32,6 +32,10 @@ or-second false y h = h
 pub or-either : (x y : Bool) → (x || y) ≡ true → (x ≡ true) ⊎ (y ≡ true)
 or-either true y h = inl refl
 or-either false y h = inr h
+
+pub or-neither : (x y : Bool) → (x || y) ≡ false → (x ≡ false) × (y ≡ false)
+or-neither true y h = absurd (true≢false h)
+or-neither false y h = (refl, h)
 
 -- where `not` holds, the test does not
 pub not-false : (x : Bool) → not x ≡ true → x ≡ false

@@ -56,3 +56,7 @@ limitTooHigh = 12
 -- L2: "15, App outside 1 to 4"
 abbrev pub unknownApp : ℕ
 unknownApp = 15
+
+-- L3: "last, 16, an event would take a total outside 0 to 64"
+abbrev pub totalOutside : ℕ
+totalOutside = 16

@@ -26,3 +26,5 @@ pub const OUTSIDE_ROW: u8 = 11;
 pub const LIMIT_TOO_HIGH: u8 = 12;
 
 pub const UNKNOWN_APP: u8 = 15;
+
+pub const TOTAL_OUTSIDE: u8 = 16;

@@ -1,7 +1,8 @@
 pub mod Locals
 pub mod Walk
 pub mod EventCases
-pub mod Filled
+pub mod HowMany
+pub mod Walked
 pub mod Tallied
 pub mod Adder
 pub mod Ripple

@@ -1,4 +1,4 @@
--- The pass over a row while it goes: whether all so far are sound, and how many use each application, in planes. What it finds is said by what
+-- The pass over a row while it goes: whether all so far are sound, and how many have each member of the set that is theirs, in planes. What it finds is said by what
 -- specs/Counting.antt counts; proofs/Surveyed.antt says that the planes come to it. Assumes nothing.
 use Prim.Native.Nat.{ℕ, zero, suc, _+_}
 use mathlib.Core.Bool.{Bool, true, false}
@@ -9,7 +9,6 @@ use Rattle.sets.specs.Set.{has, common, union, minus}
 use Rattle.kinds.specs.Kinds.{applicationCount}
 use Rattle.session.specs.declared.Session.{Session}
 use Rattle.session.specs.Session.{sound}
-use Rattle.session.specs.Limits.{used}
 use Rattle.row.specs.declared.Survey.{Survey}
 use Rattle.row.specs.declared.Tally.{Tally}
 use Rattle.row.specs.Row.{allSound}
@@ -46,11 +45,11 @@ weighedEach planes (suc k) = set (weighedEach planes k) k (weighed planes k)
 abbrev pub emptySurvey : Survey
 emptySurvey = record { sound = true; planes = replicate planeCount 0 }
 
--- with one more session
-unfoldable pub surveyedWith : Bool → Survey → Session → Survey
-surveyedWith counting v s =
+-- with one more session, of which the set `of` is counted
+unfoldable pub surveyedWith : Bool → (Session → ℕ) → Survey → Session → Survey
+surveyedWith counting of v s =
     pick (sound s)
-    (pick counting (record { sound = v .sound; planes = added (v .planes) (used s) }) v)
+    (pick counting (record { sound = v .sound; planes = added (v .planes) (of s) }) v)
     (record { sound = false; planes = v .planes })
 
 -- what it comes to: counts where they were asked for
@@ -63,5 +62,5 @@ leading [] = []
 leading (s ∷ row) = pick (sound s) (s ∷ leading row) []
 
 -- what a pass finds that ends at the first session that is not sound
-unfoldable pub surveyed : Bool → List Session → Tally
-surveyed counting row = record { sound = allSound row; counts = pick counting (tallied emptyTally (leading row) .counts) (emptyTally .counts) }
+unfoldable pub surveyed : Bool → (Session → ℕ) → List Session → Tally
+surveyed counting of row = record { sound = allSound row; counts = pick counting (tallied of emptyTally (leading row) .counts) (emptyTally .counts) }

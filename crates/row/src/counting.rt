@@ -1,13 +1,30 @@
 // What the pass over a row found, and what is asked of it.
 ghost use mathlib.Core.Path.{_≡_};
-ghost use Rattle.row.specs.Counting.{emptyTally, belowLimitBy, countBy};
+ghost use Rattle.row.specs.Counting.{counting, emptyTally, belowLimitBy, countBy, leadingCounts, recountBy};
+ghost use Rattle.row.specs.Row.{notTotalled};
+ghost use Rattle.kinds.specs.Kinds.{kindCount};
 ghost use Rattle.row.specs.Survey.{tallyBy};
 use crate::APPLICATIONS;
 use crate::Count;
+use crate::Counted;
 use crate::Limits;
+use crate::RowTotals;
 use crate::Survey;
 use crate::Tally;
 use kinds::TaId;
+use totals::Totals;
+
+// The counts of the ten kinds.
+fn leading(counts: [u8; APPLICATIONS]) -> [u8; totals::KINDS]
+    ensures { λ r. ⌜ r ≡ leadingCounts counts kindCount ⌝ }
+{
+    let mut out = [0; totals::KINDS];
+    for k in 0..totals::KINDS {
+        let n = counts[k];
+        out[k] = n;
+    }
+    out
+}
 
 impl Tally {
     // Before the first session.
@@ -21,17 +38,17 @@ impl Tally {
     }
 
     // What a survey comes to: counts only where it counted.
-    pub(crate) fn tally(survey: Survey, counting: bool) -> Tally
-        ensures { λ r. ⌜ r ≡ tallyBy counting survey ⌝ }
+    pub(crate) fn tally(survey: Survey, counted: Counted) -> Tally
+        ensures { λ r. ⌜ r ≡ tallyBy (counting counted) survey ⌝ }
     {
         let sound = survey.sound;
-        if counting {
-            let planes = survey.planes;
-            let counts = crate::planes::weighed_each(planes);
+        if counted.what == Counted::NOTHING {
+            let none = Tally::empty();
+            let counts = none.counts;
             return Tally { sound, counts };
         }
-        let none = Tally::empty();
-        let counts = none.counts;
+        let planes = survey.planes;
+        let counts = crate::planes::weighed_each(planes);
         Tally { sound, counts }
     }
 
@@ -72,5 +89,33 @@ impl Tally {
             refusal: refusals::NOT_SOUND,
             count: 0,
         }
+    }
+
+    // How many sessions of the row permit each kind, where kinds were counted.
+    pub fn recount_by(self) -> RowTotals
+        ensures { λ r. ⌜ r ≡ recountBy self ⌝ }
+    {
+        let counts = self.counts;
+        if self.sound {
+            let each = leading(counts);
+            let totals = Totals { each };
+            return RowTotals {
+                refusal: refusals::NOT_REFUSED,
+                totals,
+            };
+        }
+        RowTotals::refused(refusals::NOT_SOUND)
+    }
+}
+
+impl RowTotals {
+    // Totals of 0, and why.
+    pub(crate) fn refused(refusal: u8) -> RowTotals
+        ensures { λ r. ⌜ r ≡ notTotalled refusal ⌝ }
+    {
+        let totals = Totals {
+            each: [0; totals::KINDS],
+        };
+        RowTotals { refusal, totals }
     }
 }

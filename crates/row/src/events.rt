@@ -14,7 +14,7 @@ use session::After;
 use session::Session;
 
 impl EventNumbers {
-    pub const INITIALIZATION: u32 = 0;
+    pub(crate) const INITIALIZATION: u32 = 0;
 
     const CAPABILITY: u32 = 1;
 

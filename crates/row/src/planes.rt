@@ -1,10 +1,12 @@
-// How many sessions use each application, in planes: plane j is the set of the applications whose count has binary digit j, so that one ripple of carries
-// brings all counts up to date.
+// How many sessions have each member of a set, applications or kinds, in planes: plane j is the set of the members whose count has binary digit j, so that
+// one ripple of carries brings all counts up to date.
 ghost use mathlib.Core.Path.{_≡_};
 ghost use Prim.Native.Nat.{_<_};
 ghost use Rattle.kinds.specs.Kinds.{applicationCount};
+ghost use Rattle.row.specs.Counting.{counting, noted};
 ghost use Rattle.row.specs.Survey.{unlike, added, digit, weighed, weighedEach, emptySurvey, surveyedWith};
 use crate::APPLICATIONS;
+use crate::Counted;
 use crate::Survey;
 use session::Session;
 
@@ -18,12 +20,12 @@ fn unlike(a: u16, b: u16) -> u16
     sets::minus(sets::union(a, b), sets::common(a, b))
 }
 
-// The planes with one more for each application of a set: what a plane has already is carried to the next.
-fn added(planes: [u16; PLANES], applications: u16) -> [u16; PLANES]
-    ensures { λ r. ⌜ r ≡ added planes applications ⌝ }
+// The planes with one more for each member of a set: what a plane has already is carried to the next.
+fn added(planes: [u16; PLANES], members: u16) -> [u16; PLANES]
+    ensures { λ r. ⌜ r ≡ added planes members ⌝ }
 {
     let mut out = planes;
-    let mut carry = applications;
+    let mut carry = members;
     for j in 0..PLANES {
         // With nothing to carry the other planes stay.
         if carry == 0 {
@@ -84,19 +86,26 @@ impl Survey {
     }
 
     // With one more session.
-    pub(crate) fn with(self, s: Session, counting: bool) -> Survey
-        ensures { λ r. ⌜ r ≡ surveyedWith counting self s ⌝ }
+    pub(crate) fn with(self, s: Session, counted: Counted) -> Survey
+        ensures { λ r. ⌜ r ≡ surveyedWith (counting counted) (noted counted) self s ⌝ }
     {
         let before = self.planes;
         if s.sound() {
-            if counting {
+            if counted.what == Counted::APPLICATIONS {
                 let planes = added(before, s.used_when_sound());
                 return Survey {
                     sound: self.sound,
                     planes,
                 };
             }
-            return self;
+            if counted.what == Counted::NOTHING {
+                return self;
+            }
+            let planes = added(before, s.permitted());
+            return Survey {
+                sound: self.sound,
+                planes,
+            };
         }
         Survey {
             sound: false,

@@ -1,5 +1,6 @@
 -- What holds after every event, read off what it was decided to come to: the session is sound if it was, its numbers stay below 2 ^ 32, what is refused
--- changes nothing, outcome 2 is what a mismatch notification leaves, and outcome 3 a session that was to be admitted. By cases on the decision, and the facts of its view. Assumes nothing.
+-- changes nothing, lost and gained are by the permitted kinds before and after, outcome 2 is what a mismatch notification leaves, and outcome 3 a session that
+-- was to be admitted. By cases on the decision, and the facts of its view. Assumes nothing.
 use Prim.Native.Nat.{ℕ, _+_, _^_, _<_}
 use mathlib.Core.Path.{_≡_, refl, sym, ap, ap₂, _∙_, subst}
 use mathlib.Core.Bool.{Bool, true, false, _&&_, _||_, and-true}
@@ -14,6 +15,7 @@ use Rattle.choice.proofs.Branch.{by-test, pick-both, taken, left}
 use Rattle.sets.specs.Set.{has, common, empty, minus}
 use Rattle.sets.proofs.Bounds.{common-lt}
 use Rattle.sets.proofs.Members.{has-common, has-all, ext}
+use Rattle.sets.proofs.Subsets.{within-self, nothing-left}
 use Rattle.refusals.specs.Refusals.{notRefused, wrongState, notSound}
 use Rattle.kinds.specs.Kinds.{applicationCount, allApplications}
 use Rattle.area.specs.Area.{readArea}
@@ -97,6 +99,33 @@ module _ (s : Session) where
 
   pub step-bare : (e : Event) → Bare (step s e)
   step-bare e = settled-bare (decision s e)
+
+-- ---- lost is what was permitted before and is not after, gained the other way round; where the session stays that is nothing
+pub record Moves (s : Session) (after : After) : Type 0 where
+  pub lost : after .answer .lost ≡ minus (permitted s) (permitted (after .session))
+  pub gained : after .answer .gained ≡ minus (permitted (after .session)) (permitted s)
+
+pub refused-moves : (s : Session) (n : ℕ) → Moves s (refused s n)
+refused-moves s n =
+    let nothing = sym (nothing-left (permitted s) (permitted s) (within-self (permitted s))) in
+    record { lost = nothing; gained = nothing }
+
+module _ (s : Session) where
+  settled-moves : (c : Decision) → Moves s (settled s c)
+  unfolding settled answered
+  settled-moves (Refused n) = refused-moves s n
+  settled-moves Unchanged = let nothing = refused-moves s notRefused in record { lost = nothing .lost; gained = nothing .gained }
+  settled-moves (Done t) = record { lost = refl; gained = refl }
+  settled-moves (AsMismatch t) = record { lost = refl; gained = refl }
+  settled-moves (Negotiate t) = by-test (Moves s) (λ _. record { lost = refl; gained = refl }) (λ _. record { lost = refl; gained = refl })
+  settled-moves (Admit t belowLimit) =
+      by-test (Moves s) (λ _. record { lost = refl; gained = refl })
+      (λ _. by-test (Moves s) (λ _. record { lost = refl; gained = refl }) (λ _. record { lost = refl; gained = refl }))
+  settled-moves (Send t written) = by-test (Moves s) (λ _. record { lost = refl; gained = refl }) (λ _. record { lost = refl; gained = refl })
+  settled-moves (Tell written) = record { lost = refl; gained = refl }
+
+  pub step-moves : (e : Event) → Moves s (step s e)
+  step-moves e = settled-moves (decision s e)
 
 -- ---- 10 before all others: a session that is not sound is refused whatever the event
 unsound-decided : (s : Session) (e : Event) → sound s ≡ false → decision s e ≡ Refused notSound

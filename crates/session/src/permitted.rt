@@ -6,7 +6,7 @@ use crate::Session;
 
 impl Session {
     // The permitted kinds of a session, sound or not. It picks and does not branch, and so is put in place where it is asked.
-    pub(crate) fn permitted(self) -> u16
+    pub fn permitted(self) -> u16
         ensures { λ r. ⌜ r ≡ permitted self ⌝ }
     {
         let opened = kinds::opened(self.negotiated(), self.protects);

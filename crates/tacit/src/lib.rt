@@ -13,7 +13,8 @@ ghost use Rattle.record.specs.Record.{decoded};
 ghost use Rattle.record.specs.Carried.{Carried};
 ghost use Rattle.record.specs.Loaded.{load, storeRefusal, storeOctets};
 ghost use Rattle.row.specs.Limiting.{noLimits, limited};
-ghost use Rattle.row.specs.Row.{eventAt, rowAfter, roomAfter as rowRoom, countOf};
+ghost use Rattle.totals.specs.Totals.{kindTotal};
+ghost use Rattle.row.specs.Row.{eventWith, rowAfter, roomAfter as rowRoom, countOf, recount};
 ghost use Rattle.tacit.specs.Creation.{CreatedIn};
 use area::Reading;
 use kinds::SacApp;
@@ -21,9 +22,11 @@ use kinds::TaId;
 use message::Message;
 use record::Loaded;
 use row::Count;
+use row::Counted;
 use row::EventNumbers;
 use row::Limited;
 use row::Limits;
+use row::RowTotals;
 use session::Answer;
 use session::Created;
 use session::Kinds;
@@ -32,6 +35,9 @@ use session::Reason;
 use session::Retry;
 use session::Session;
 use session::Settings;
+use totals::RowAnswer;
+use totals::Total;
+use totals::Totals;
 use wishes::Want;
 use wishes::Written;
 
@@ -245,10 +251,31 @@ pub extern "C" fn tacit_row_count(row: &[Session], ta_id: u32) -> Count
     ensures { λ r. ⌜ r ≡ countOf (now (row .entry)) «ta_id» ⌝ }
 {
     if (0 < row.len()) & (row.len() <= row::MOST_SESSIONS) {
-        let tally = row::tally_of(row, true);
+        let counted = Counted::applications();
+        let tally = row::tally_of(row, counted);
         return tally.count_by(ta_id);
     }
     row::uncounted()
+}
+
+#[no_mangle]
+pub extern "C" fn tacit_kind_total(totals: Totals, kind: u32) -> Total
+    ensures { λ r. ⌜ r ≡ kindTotal totals kind ⌝ }
+{
+    totals.of_kind(kind)
+}
+
+// The row is lent: the same pass over it, of kinds.
+#[no_mangle]
+pub extern "C" fn tacit_recount(row: &[Session]) -> RowTotals
+    ensures { λ r. ⌜ r ≡ recount (now (row .entry)) ⌝ }
+{
+    if (0 < row.len()) & (row.len() <= row::MOST_SESSIONS) {
+        let counted = Counted::kinds();
+        let tally = row::tally_of(row, counted);
+        return tally.recount_by();
+    }
+    row::untotalled()
 }
 
 // The row is lent: one pass over it, then the session is taken out, the event happens to it by value, and it is stored back.
@@ -258,16 +285,18 @@ pub extern "C" fn tacit_row_event(
     at: usize,
     event: EventNumbers,
     limits: Limits,
+    totals: Totals,
     area: &[u8],
     room: &mut [u8],
-) -> Answer
-    ensures { λ r. ⌜ (r ≡ eventAt (now (row .entry)) at event limits (now (area .entry)) (length (now (room .entry))) .answer) × (now (row .exit) ≡ rowAfter (now (row .entry)) at event limits (now (area .entry)) (length (now (room .entry)))) × (now (room .exit) ≡ rowRoom (now (row .entry)) at event limits (now (area .entry)) (now (room .entry))) ⌝ }
+) -> RowAnswer
+    ensures { λ r. ⌜ (r ≡ eventWith (now (row .entry)) at event limits totals (now (area .entry)) (length (now (room .entry))) .answer) × (now (row .exit) ≡ rowAfter (now (row .entry)) at event limits totals (now (area .entry)) (length (now (room .entry)))) × (now (room .exit) ≡ rowRoom (now (row .entry)) at event limits totals (now (area .entry)) (now (room .entry))) ⌝ }
 {
     if (at < row.len()) & (row.len() <= row::MOST_SESSIONS) {
-        let tally = row::tally_of(row, event.which == EventNumbers::INITIALIZATION);
-        let after = row::event_in(row[at], tally, event, limits, area, room);
+        let counted = event.counted();
+        let tally = row::tally_of(row, counted);
+        let after = row::event_in(row[at], tally, event, limits, totals, area, room);
         row[at] = after.session;
         return after.answer;
     }
-    row::outside()
+    row::outside(totals)
 }

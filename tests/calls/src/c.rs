@@ -8,6 +8,7 @@ pub fn header(table: &Table) -> String {
         numbers(table),
         given(table),
         structs,
+        single(table),
         functions(table),
         taken(table),
         shown(table),
@@ -88,6 +89,33 @@ struct source {{
     struct octets (*buffer)(struct source *source, enum buffer which);
 }};
 "#
+    )
+}
+
+/// The buffers that are one struct.
+fn single(table: &Table) -> String {
+    let octets = joined(table.buffers(), ", ", |buffer| match buffer.kind {
+        Type::One(name) => format!("{}_OCTETS", name.to_uppercase()),
+        _ => "0".to_string(),
+    });
+    let asserts = each(table.buffers(), |buffer| match buffer.kind {
+        Type::One(name) if name != "session" => octets_alone(&name),
+        _ => String::new(),
+    });
+    format!(
+        r#"
+/* The octets of a buffer that is one struct, and so has no length; 0 for the others. */
+static const size_t single[BUFFERS] = {{{octets}}};
+{asserts}"#
+    )
+}
+
+/// Such a struct is lent as octets are.
+fn octets_alone(name: &str) -> String {
+    let upper = name.to_uppercase();
+    format!(
+        "_Static_assert(sizeof(struct tacit_{name}) == {upper}_OCTETS && \
+         _Alignof(struct tacit_{name}) == 1, \"{name} is octets alone\");\n"
     )
 }
 
@@ -285,10 +313,10 @@ static inline const uint8_t *get_{name}(struct tacit_{name} *to, const uint8_t *
 fn parameter(argument: &Field) -> String {
     let name = &argument.name;
     let constant = if argument.written { "" } else { "const " };
-    match argument.kind {
+    match &argument.kind {
         Type::Octets => format!("{constant}uint8_t *{name}, size_t {name}_len"),
         Type::Sessions => format!("{constant}struct tacit_session *{name}, size_t {name}_len"),
-        Type::Session => format!("{constant}struct tacit_session *{name}"),
+        Type::One(of) => format!("{constant}struct tacit_{of} *{name}"),
         _ => declared(&argument.kind, name),
     }
 }
@@ -377,7 +405,7 @@ fn make_call(table: &Table, call: &Call) -> String {
         match argument.kind {
             Type::Octets => format!("at[{upper}], given->lent[{upper}].length"),
             Type::Sessions => format!("at[{upper}], given->lent[{upper}].length / SESSION_OCTETS"),
-            Type::Session => format!("at[{upper}]"),
+            Type::One(_) => format!("at[{upper}]"),
             _ => format!("given->{}", argument.name),
         }
     });

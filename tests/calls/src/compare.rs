@@ -112,7 +112,7 @@ fn left(table: &Table) -> String {
     let left = each(&written, declared);
     let as_found = each(&written, |buffer| {
         let copied = match buffer.kind {
-            Type::Session => "",
+            Type::One(_) => "",
             _ => ".clone()",
         };
         format!("            {0}: call.{0}{copied},\n", buffer.name)
@@ -251,7 +251,7 @@ fn type_of(kind: &Type) -> String {
         Type::Struct(name) => seconds(name),
         Type::Octets => "Vec<u8>".to_string(),
         Type::Sessions => format!("Vec<{}>", seconds("session")),
-        Type::Session => seconds("session"),
+        Type::One(name) => seconds(name),
     }
 }
 

@@ -34,10 +34,10 @@ fn type_of(kind: &Type) -> String {
 fn parameter(argument: &Field) -> String {
     let name = &argument.name;
     let pointer = if argument.written { "*mut" } else { "*const" };
-    match argument.kind {
+    match &argument.kind {
         Type::Octets => format!("{name}: {pointer} u8, {name}_len: usize"),
         Type::Sessions => format!("{name}: {pointer} second::Fields, {name}_len: usize"),
-        Type::Session => format!("{name}: {pointer} second::Fields"),
+        Type::One(of) => format!("{name}: {pointer} {}", seconds(of)),
         _ => format!("{name}: {}", type_of(&argument.kind)),
     }
 }
@@ -47,7 +47,7 @@ fn passed(argument: &Field) -> String {
     match (&argument.kind, argument.written) {
         (Type::Octets | Type::Sessions, true) => format!("lent_mut({name}, {name}_len)"),
         (Type::Octets | Type::Sessions, false) => format!("lent({name}, {name}_len)"),
-        (Type::Session, _) => format!("&mut *{name}"),
+        (Type::One(_), _) => format!("&mut *{name}"),
         _ => name.clone(),
     }
 }

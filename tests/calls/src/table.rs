@@ -13,8 +13,8 @@ pub enum Type {
     /// Octets or sessions lent with their length.
     Octets,
     Sessions,
-    /// One session, lent.
-    Session,
+    /// One struct of this name, lent where it stands.
+    One(String),
 }
 
 impl Type {
@@ -40,11 +40,23 @@ impl Type {
 
     /// Is it lent, as one session or as many?
     pub fn is_sessions(&self) -> bool {
-        matches!(self, Type::Sessions | Type::Session)
+        match self {
+            Type::Sessions => true,
+            Type::One(name) => name == "session",
+            _ => false,
+        }
     }
 
     pub fn is_lent(&self) -> bool {
-        matches!(self, Type::Octets | Type::Sessions | Type::Session)
+        matches!(self, Type::Octets | Type::Sessions | Type::One(_))
+    }
+
+    /// What a call may write.
+    fn lent_to_write(self) -> Type {
+        match self {
+            Type::Struct(name) => Type::One(name),
+            other => other,
+        }
     }
 }
 
@@ -158,7 +170,7 @@ impl Table {
                 .iter()
                 .map(|field| self.octets(&field.kind))
                 .sum(),
-            Type::Octets | Type::Sessions | Type::Session => {
+            Type::Octets | Type::Sessions | Type::One(_) => {
                 panic!("calls.txt: lent in a struct")
             }
         }
@@ -198,8 +210,7 @@ fn fields(words: &[&str]) -> Vec<Field> {
         let words: Vec<&str> = field.split(' ').collect();
         let (name, kind, written) = match words[..] {
             [name, kind] => (name, Type::read(kind), false),
-            [name, "session", "mut"] => (name, Type::Session, true),
-            [name, kind, "mut"] => (name, Type::read(kind), true),
+            [name, kind, "mut"] => (name, Type::read(kind).lent_to_write(), true),
             _ => panic!("calls.txt: cannot be read: {field}"),
         };
         Field {

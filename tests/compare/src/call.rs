@@ -3,7 +3,7 @@
 
 use crate::side::{Lost, Side};
 use crate::value::{Given, Value, Way};
-use second::Fields;
+use second::{Answer, Fields, Totals};
 use std::panic::{self, AssertUnwindSafe};
 use std::sync::atomic::{AtomicBool, Ordering};
 
@@ -16,6 +16,28 @@ pub struct Seen {
     pub left: Left,
     /// What went wrong beside the answer: bits of `show::FAULTS`.
     pub faults: u8,
+}
+
+impl Seen {
+    /// The totals after an event of a row.
+    pub fn totals(&self) -> Totals {
+        match &self.said {
+            Said::RowAnswer(after) => after.totals,
+            _ => self.left.kept,
+        }
+    }
+}
+
+impl Said {
+    /// What an event answers.
+    pub fn answer(&self) -> Option<&Answer> {
+        match self {
+            Said::Answer(answer) => Some(answer),
+            Said::RowAnswer(after) => Some(&after.answer),
+            Said::Wished(wished) => Some(&wished.answer),
+            _ => None,
+        }
+    }
 }
 
 static ASKING_SECOND: AtomicBool = AtomicBool::new(false);
@@ -76,6 +98,23 @@ impl Call {
                 number.map(|number| number as u32)
             }
         }
+    }
+
+    /// The totals that an event of a row is given, by value or where they stand.
+    pub fn given_totals(&self) -> Totals {
+        match self.which {
+            Which::RowEvent => self.totals,
+            _ => self.kept,
+        }
+    }
+
+    /// The same event with these totals.
+    pub fn with_totals(mut self, totals: Totals) -> Call {
+        match self.which {
+            Which::RowEvent => self.totals = totals,
+            _ => self.kept = totals,
+        }
+        self
     }
 
     /// About how many octets are sent.

@@ -21,6 +21,7 @@ mod show;
 mod shrink;
 mod side;
 mod tally;
+mod totals;
 mod value;
 mod widths;
 mod wire;

@@ -1,6 +1,6 @@
 //! What is worth noting of a call beside its refusal and its outcome.
 
-use crate::call::{Call, Said, Seen, Which};
+use crate::call::{Call, Seen, Which};
 use crate::tally::Place::{self, Outside, Ready, Unsound};
 use crate::widths::{APPLICATIONS, APPS};
 use crate::{records, rows};
@@ -47,7 +47,7 @@ pub const OF_WISHES: [[&str; 2]; APPS] = [
 ];
 
 /// What is so, of what might be.
-fn such(notes: &[(&'static str, bool)]) -> Vec<&'static str> {
+pub fn such(notes: &[(&'static str, bool)]) -> Vec<&'static str> {
     let so = notes.iter().filter(|(_, so)| *so);
     so.map(|(note, _)| *note).collect()
 }
@@ -125,7 +125,7 @@ pub fn of_row(call: &Call, before: Place, seen: &Seen) -> Vec<&'static str> {
         ),
         ("on by a number over 1", call.event.on > 1),
     ]);
-    if let (Ready, Said::Answer(answer)) = (before, &seen.said) {
+    if let (Ready, Some(answer)) = (before, seen.said.answer()) {
         notes.extend(of_limits(call, answer, &seen.left.row[at as usize]));
     }
     notes

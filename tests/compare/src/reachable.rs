@@ -1,10 +1,10 @@
 //! What the rules make reachable, for the closing table.
 
 use crate::call::{Which, ROW_EVENTS};
-use crate::notes;
 use crate::tally::Place::{self, Gone, Held, Open, Outside, Ready, Unsound};
 use crate::tally::What::{self, Note, Outcome, Refusal};
 use crate::tally::{Item, STATES};
+use crate::{notes, totals};
 use std::collections::BTreeSet;
 
 /// The names of events that are told by their numbers.
@@ -225,6 +225,12 @@ fn rows_and_limits(add: &mut Add) {
         for after in [Ready, Held, Gone] {
             add(names[0], Ready, Outcome(3, after));
         }
+        // An event loses kinds in Open only, and gains them there and by opening.
+        let [initialization, capability, local_change, mismatch, _, closed] = names;
+        add(initialization, Ready, Refusal(16));
+        for name in [capability, local_change, mismatch, closed] {
+            add(name, Open, Refusal(16));
+        }
     }
     add(NO_EVENT, Outside, Refusal(11));
     add(NO_EVENT, Unsound, Refusal(10));
@@ -240,6 +246,18 @@ fn rows_and_limits(add: &mut Add) {
     }
     for note in notes::OF_ROW {
         add("row", Place::None, Note(note));
+    }
+    add("recount", Outside, Refusal(11));
+    add("recount", Unsound, Refusal(10));
+    for note in ["none permits any", "all totals under 64", "a total of 64"] {
+        add("recount", Place::None, Note(note));
+    }
+    add("kind_total", Place::None, Refusal(6));
+    for note in ["total 0", "total 1 to 63", "total 64", "total over 64"] {
+        add("kind_total", Place::None, Note(note));
+    }
+    for note in totals::NOTES {
+        add("totals", Place::None, Note(note));
     }
 
     for name in ["load", "store"] {

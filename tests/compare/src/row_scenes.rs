@@ -5,7 +5,7 @@ use crate::call::{Call, Said, Seen, Which, ROW_EVENTS};
 use crate::numbers::Numbers;
 use crate::widths::{ALL_APPLICATIONS, LAST};
 use crate::{areas, records, rows, scenes};
-use second::{no_limits, Event, Fields, Limits};
+use second::{no_limits, recount, Event, Fields, Limits, Totals};
 
 const INITIALIZATION: usize = 0;
 const CAPABILITY: usize = 1;
@@ -18,6 +18,7 @@ pub struct RowWalk {
     /// The wishes of each session.
     wishes: Vec<u32>,
     limits: Limits,
+    totals: Totals,
     /// The applications that its sessions have to do with.
     few: u16,
     left: usize,
@@ -41,6 +42,7 @@ impl RowWalk {
             row,
             wishes,
             limits,
+            totals: Totals::default(),
             few,
             left: numbers.one_of(&[10, 30, 60]) + 3 * length,
         }
@@ -48,7 +50,7 @@ impl RowWalk {
 
     pub fn next(&self, numbers: &mut Numbers) -> Call {
         let session = numbers.one_of(&self.row);
-        match numbers.weighted(&[80, 7, 7, 2, 2, 1, 1, 8]) {
+        match numbers.weighted(&[80, 7, 7, 2, 2, 1, 1, 8, 5, 5]) {
             0 => self.event(numbers),
             1 => set_limit(numbers, &self.row, self.few, self.limits),
             2 => row_count(numbers, self.row.clone(), self.few),
@@ -56,7 +58,9 @@ impl RowWalk {
             4 => store(numbers, session, records::LENGTH),
             5 => of_session(Which::SessionKinds, session),
             6 => of_session(Which::SessionRetry, session),
-            _ => session_wish(numbers, session, self.wishes[self.place(&session)]),
+            7 => session_wish(numbers, session, self.wishes[self.place(&session)]),
+            8 => kind_total(numbers, self.totals),
+            _ => Call::on_row(Which::Recount, self.row.clone()),
         }
     }
 
@@ -78,9 +82,14 @@ impl RowWalk {
             _ => [3, 3, 25, 3, 45, 2, 1],
         };
         let which = numbers.weighted(&weights);
+        let totals = match numbers.chance(90) {
+            true => self.totals,
+            false => rows::spoiled(numbers, self.totals),
+        };
         let call = Call {
             at,
             limits: self.limits,
+            totals,
             ..Call::on_row(Which::RowEvent, self.row.clone())
         };
         event(numbers, call, which, &session, self.few)
@@ -106,6 +115,11 @@ impl RowWalk {
     pub fn saw(&mut self, call: &Call, seen: &Seen) {
         if call.row_event().is_some() {
             self.row.clone_from(&seen.left.row);
+            // Spoiled ones are not kept.
+            self.totals = match call.given_totals() == self.totals {
+                true => seen.totals(),
+                false => recount(&self.row).totals,
+            };
         }
         if call.which == Which::SessionWish {
             let at = self.place(&call.one);
@@ -127,8 +141,10 @@ impl RowWalk {
 pub fn single(numbers: &mut Numbers) -> Call {
     let few = rows::few(numbers);
     let mut row = rows::any(numbers, few);
-    if numbers.chance(15) {
-        return row_count(numbers, row, few);
+    match numbers.weighted(&[78, 12, 10]) {
+        1 => return row_count(numbers, row, few),
+        2 => return Call::on_row(Which::Recount, row),
+        _ => {}
     }
     let which = numbers.weighted(&[44, 14, 16, 6, 9, 6, 5]);
     let at = if row.is_empty() || numbers.chance(12) {
@@ -147,6 +163,7 @@ pub fn single(numbers: &mut Numbers) -> Call {
     let call = Call {
         at,
         limits: rows::limits(numbers, &row, few),
+        totals: rows::totals(numbers, &row),
         ..Call::on_row(Which::RowEvent, row)
     };
     event(numbers, call, which, &session, few)
@@ -166,8 +183,10 @@ fn state_for(numbers: &mut Numbers, which: usize) -> u8 {
 /// difference.
 fn event(numbers: &mut Numbers, call: Call, which: usize, session: &Fields, few: u16) -> Call {
     let hint = match numbers.below(4) {
+        // What the session might use: kinds come and go with it.
+        _ if which == LOCAL_CHANGE && numbers.chance(40) => session.listed & ALL_APPLICATIONS,
         0 => records::hint(session),
-        // What the session uses: without it there may be a mismatch.
+        // What it uses: without it there may be a mismatch.
         1 => session.enabled & session.listed & ALL_APPLICATIONS,
         _ => few,
     };
@@ -206,6 +225,7 @@ fn event(numbers: &mut Numbers, call: Call, which: usize, session: &Fields, few:
 fn by_name(call: Call, named: Which, on: bool) -> Call {
     let mut other = Call {
         at: call.at,
+        kept: call.totals,
         ..Call::on_row(named, call.row)
     };
     if other.takes("limits") {
@@ -279,6 +299,14 @@ fn set_limit(numbers: &mut Numbers, row: &[Fields], few: u16, limits: Limits) ->
     }
 }
 
+fn kind_total(numbers: &mut Numbers, totals: Totals) -> Call {
+    Call {
+        totals,
+        kind: scenes::kind(numbers),
+        ..Call::new(Which::KindTotal)
+    }
+}
+
 /// A session stored in a record of this length.
 fn store(numbers: &mut Numbers, session: Fields, length: usize) -> Call {
     Call {
@@ -304,9 +332,9 @@ fn session_wish(numbers: &mut Numbers, session: Fields, kept: u32) -> Call {
     scenes::with_wishes(numbers, call, kept)
 }
 
-/// A call that serves rows and is on none: sessions to and from records, limits.
+/// A call that serves rows and is on none: sessions to and from records, limits, totals.
 pub fn beside_a_row(numbers: &mut Numbers) -> Call {
-    match numbers.weighted(&[30, 30, 5, 20, 8, 7, 40]) {
+    match numbers.weighted(&[30, 30, 5, 20, 8, 7, 40, 15]) {
         0 => Call::on_record(Which::Load, records::any(numbers)),
         1 => {
             let length = if numbers.chance(80) {
@@ -325,9 +353,13 @@ pub fn beside_a_row(numbers: &mut Numbers) -> Call {
         }
         4 => of_session(Which::SessionKinds, any_session(numbers)),
         5 => of_session(Which::SessionRetry, any_session(numbers)),
-        _ => {
+        6 => {
             let (session, wishes) = (any_session(numbers), records::wishes(numbers));
             session_wish(numbers, session, wishes)
+        }
+        _ => {
+            let totals = rows::any_totals(numbers);
+            kind_total(numbers, totals)
         }
     }
 }

@@ -3,8 +3,8 @@
 
 use crate::numbers::Numbers;
 use crate::records::{self, IN_FORCE, OPEN, READY, USES_TAC};
-use crate::widths::APPLICATIONS;
-use second::{Fields, Limits};
+use crate::widths::{APPLICATIONS, KINDS};
+use second::{recount, Fields, Limits, Totals};
 
 /// The most sessions that a row may have.
 pub const LONGEST: usize = 64;
@@ -211,6 +211,49 @@ pub fn limit_to_set(numbers: &mut Numbers, count: u8) -> u32 {
         small | 0x1_0000,
         edge | 0x8000_0000,
         u32::MAX,
+    ];
+    numbers.one_of(&choices)
+}
+
+/// Totals to hand in with a row: its own, its own but for some, or any.
+pub fn totals(numbers: &mut Numbers, row: &[Fields]) -> Totals {
+    let own = recount(row).totals;
+    match numbers.weighted(&[30, 32, 10, 20, 8]) {
+        0 => own,
+        1 => spoiled(numbers, own),
+        2 => {
+            // All may move but one.
+            let total = numbers.between(1, 63) as u8;
+            spoiled(numbers, Totals { of: [total; KINDS] })
+        }
+        3 => Totals {
+            of: [any_total(numbers); KINDS],
+        },
+        _ => any_totals(numbers),
+    }
+}
+
+pub fn any_totals(numbers: &mut Numbers) -> Totals {
+    Totals {
+        of: std::array::from_fn(|_| any_total(numbers)),
+    }
+}
+
+/// The totals with one of them another, or with some.
+pub fn spoiled(numbers: &mut Numbers, mut totals: Totals) -> Totals {
+    for _ in 0..numbers.one_of(&[1, 1, 1, 2, 3]) {
+        totals.of[numbers.below(KINDS)] = any_total(numbers);
+    }
+    totals
+}
+
+/// A total, most often about the edges of what it may come to.
+fn any_total(numbers: &mut Numbers) -> u8 {
+    let random = numbers.octet();
+    let inside = numbers.between(0, LONGEST) as u8;
+    let choices = [
+        0, 0, 1, 2, 62, 63, 63, 64, 64, 65, 65, 66, 66, 67, 127, 128, 192, 200, 254, 255, 255,
+        inside, inside, random,
     ];
     numbers.one_of(&choices)
 }

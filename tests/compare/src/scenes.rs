@@ -258,7 +258,7 @@ pub fn room(numbers: &mut Numbers, needed: usize) -> Vec<u8> {
     numbers.octets(length)
 }
 
-fn kind(numbers: &mut Numbers) -> u32 {
+pub fn kind(numbers: &mut Numbers) -> u32 {
     let kind = numbers.below(13) as u32;
     if numbers.chance(90) {
         kind

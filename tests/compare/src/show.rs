@@ -50,9 +50,8 @@ impl Seen {
         let found = Left::as_found(call);
         for ((name, left), (_, before)) in self.left.by_name().iter().zip(found.by_name()) {
             let as_found = octets(*left) == octets(before);
-            let is_there = before.length() > 0 || *name == "one";
             match *name {
-                _ if !is_there || !call.takes(name) => {}
+                _ if !before.is_there() || !call.takes(name) => {}
                 _ if as_found => writeln!(text, "           {name:<6} as found").unwrap(),
                 "row" => text.push_str(&changed(&self.left.row, &call.row)),
                 _ => writeln!(text, "           {name:<6} {}", left.show()).unwrap(),

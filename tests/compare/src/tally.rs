@@ -2,7 +2,7 @@
 
 use crate::call::{Call, Left, Said, Seen, Which};
 use crate::reachable::{reachable, BY_NUMBER, NO_EVENT};
-use crate::{notes, records, rows};
+use crate::{notes, records, rows, totals};
 use second::{Answer, Fields};
 use std::collections::{BTreeMap, BTreeSet};
 use std::fmt;
@@ -141,12 +141,7 @@ fn sessions(call: &Call, left: &Left) -> (Fields, Fields) {
 
 /// What an event did, if it was not refused.
 fn event(said: &Said) -> Option<&Answer> {
-    let answer = match said {
-        Said::Answer(answer) => answer,
-        Said::Wished(wished) => &wished.answer,
-        _ => return None,
-    };
-    (answer.refusal == 0).then_some(answer)
+    said.answer().filter(|answer| answer.refusal == 0)
 }
 
 impl Tally {
@@ -155,6 +150,9 @@ impl Tally {
         let before = Place::before(call);
         for note in notes::of_row(call, before, seen) {
             self.met(("row", Place::None, What::Note(note)));
+        }
+        for note in totals::notes(call, before, seen) {
+            self.met(("totals", Place::None, What::Note(note)));
         }
         for note in notes::of_lists(call, seen) {
             self.met(("long list", Place::None, What::Note(note)));
@@ -213,6 +211,20 @@ impl Tally {
                 64 => "count 64",
                 _ => "count over 64",
             })),
+            Said::Total(answer) if answer.refusal == 0 => met(What::Note(match answer.total {
+                0 => "total 0",
+                1..=63 => "total 1 to 63",
+                64 => "total 64",
+                _ => "total over 64",
+            })),
+            Said::RowTotals(answer) if answer.refusal == 0 => {
+                met(What::Note(match answer.totals.of.into_iter().max() {
+                    Some(0) => "none permits any",
+                    Some(1..=63) => "all totals under 64",
+                    Some(64) => "a total of 64",
+                    _ => "a total over 64",
+                }))
+            }
             Said::Written(answer) if answer.refusal == 0 => met(What::Note(match answer.written {
                 0 => "nothing written",
                 6 => "6 octets written",

@@ -15,6 +15,11 @@ pub trait Given {
         0
     }
 
+    /// Is anything lent at all?
+    fn is_there(&self) -> bool {
+        true
+    }
+
     /// How many bits are set.
     fn bits(&self) -> u32;
 
@@ -157,6 +162,10 @@ impl Given for Vec<u8> {
         self.len()
     }
 
+    fn is_there(&self) -> bool {
+        !self.is_empty()
+    }
+
     fn bits(&self) -> u32 {
         set_bits(self)
     }
@@ -195,6 +204,10 @@ impl Given for Vec<Fields> {
 
     fn length(&self) -> usize {
         SESSION_OCTETS * self.len()
+    }
+
+    fn is_there(&self) -> bool {
+        !self.is_empty()
     }
 
     fn bits(&self) -> u32 {

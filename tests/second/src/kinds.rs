@@ -17,7 +17,7 @@ pub(crate) enum Kind {
 }
 
 impl Kind {
-    const ALL: [Kind; 10] = [
+    pub const ALL: [Kind; 10] = [
         Kind::Ipv4Prefix,
         Kind::Ipv6Prefix,
         Kind::P2mp,

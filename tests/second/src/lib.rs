@@ -1,6 +1,6 @@
 //! Negotiation of targeted LDP applications (RFC 8223) together with state
 //! advertisement control (RFC 7473), for one session held in a stored record and
-//! for a row of sessions with limits.
+//! for a row of sessions with limits and totals.
 //!
 //! Every public function works on plain octets and numbers and can be called
 //! with any of them. A session travels as its 22-octet record, or in a row as
@@ -19,6 +19,7 @@
 //! | `fields.rs`  | a session as a row holds it, loaded and stored         |
 //! | `limits.rs`  | how many sessions may use each application             |
 //! | `row.rs`     | how many sessions do, and the events of one of them    |
+//! | `totals.rs`  | how many sessions of a row permit each kind, kept      |
 //! | `wishes.rs`  | of which kinds we want no bindings, and telling it     |
 
 #![forbid(unsafe_code)]
@@ -33,14 +34,16 @@ mod message;
 mod record;
 mod row;
 mod session;
+mod totals;
 mod wishes;
 
 pub use fields::{load, session_kinds, session_retry, store, Fields, Loaded};
 pub use limits::{no_limits, set_limit, Limited, Limits};
 pub use row::{
-    row_capability, row_closed, row_count, row_event, row_hello, row_initialization,
+    recount, row_capability, row_closed, row_count, row_event, row_hello, row_initialization,
     row_local_change, row_mismatch, Count, Event,
 };
+pub use totals::{kind_total, RowAnswer, RowTotals, Total, Totals};
 pub use wishes::{session_wish, wanted, wish, wish_sac, Want, Wished, Written};
 
 use events::{Effect, Outcome};
@@ -151,6 +154,7 @@ pub(crate) enum Refusal {
     OutsideRow = 11,
     LimitTooHigh = 12,
     NoControl = 15,
+    TotalOutside = 16,
 }
 
 impl Refusal {

@@ -31,8 +31,6 @@ use sound.WpLaws.{fmOf, WpFn-mono}
 use borrow.Author.Needs.{scaled-fits}
 use denote.RattleType.{owns}
 use denote.Laws.{Is, shows}
-use denote.Plain.{bool-vals, bool-tells}
-use denote.Builtin.{bool}
 use denote.Memory.{shares}
 use denote.Ref.{RefT, now}
 use denote.Slice.{sliceVal, ShrSlice, Room, slice-vals, shr-slice-tells, shr-slice-copy}
@@ -53,15 +51,19 @@ use Rattle.session.specs.declared.Session.{Session}
 use Rattle.session.specs.With.{noSession}
 use Rattle.session.proofs.Session as T
 use Rattle.session.proofs.Session.Laws as T′
+use Rattle.row.specs.declared.Counted.{Counted}
 use Rattle.row.specs.declared.Survey.{Survey}
 use Rattle.row.specs.declared.Tally.{Tally}
 use Rattle.row.specs.Limiting.{mostSessions}
 use Rattle.row.specs.Row.{sessionAt}
+use Rattle.row.specs.Counting.{counting, noted}
 use Rattle.row.specs.Survey as S
 use Rattle.row.specs.Survey.{surveyed, surveyedWith, tallyBy}
 use Rattle.row.proofs.Surveyed.{onward, onward-over, onward-surveyed}
 use Rattle.row.proofs.Locals.{Blocks, env, locals, holding, enters, leaves, keeps-only, held, var, part, sets, refills, lands-in, retold}
-use Rattle.row.proofs.Walk.{Lent, after, session-size, session-data, survey-data, tally-data, low, Good, fits, makes, makes-bool, asks, is-true, is-false}
+use Rattle.row.proofs.Walk.{Lent, after, session-size, session-data, counted-data, survey-data, tally-data, low, Good, fits, makes, asks, is-true, is-false}
+use Rattle.row.proofs.Counted as Q
+use Rattle.row.proofs.Counted.Laws as Q′
 use Rattle.row.proofs.Survey.empty as empty-yet
 use Rattle.row.proofs.Survey.empty.Symbol as empty-def
 use Rattle.row.proofs.Survey.empty.Symbol.{name as #empty}
@@ -81,7 +83,7 @@ use Rattle.row.proofs.tally_of.Code as code
 use Rattle.row.proofs.tally_of.Code.Mir as mir
 
 abbrev stayed : Stays (f.ended .signature .params) (f.ended .kept)
-stayed = (stay-none-slice (0 ∷ []) tt (plain (λ _. T.the-row)) yes, (stay-none (λ _. bool) yes, tt))
+stayed = (stay-none-slice (0 ∷ []) tt (plain (λ _. T.the-row)) yes, (stay-none (λ _. Q.the-row) yes, tt))
 
 -- ---- the locals
 abbrev %result : ℕ
@@ -90,11 +92,11 @@ abbrev %result : ℕ
 abbrev %row : ℕ
 %row = %result + 1
 
-abbrev %counting : ℕ
-%counting = %row + 1
+abbrev %counted : ℕ
+%counted = %row + 1
 
 abbrev %survey : ℕ
-%survey = %counting + 1
+%survey = %counted + 1
 
 abbrev %k : ℕ
 %k = %survey + 1
@@ -118,19 +120,19 @@ abbrev %session : ℕ
 %session = %place + 1
 
 -- one more session
-step : (counting : Bool) (ys : List Session) (i : ℕ) (v : Survey) → i < length ys → v .sound ≡ true → onward counting v (dropL i ys) ≡ surveyed counting ys → (r : Survey) → r ≡ surveyedWith counting v (sessionAt ys i) → onward counting r (dropL (i + 1) ys) ≡ surveyed counting ys
+step : (counting : Bool) (of : Session → ℕ) (ys : List Session) (i : ℕ) (v : Survey) → i < length ys → v .sound ≡ true → onward counting of v (dropL i ys) ≡ surveyed counting of ys → (r : Survey) → r ≡ surveyedWith counting of v (sessionAt ys i) → onward counting of r (dropL (i + 1) ys) ≡ surveyed counting of ys
 unfolding onward
-step counting ys i v l all so r e = rw (add-one, e) (sym (ap (onward counting v) (drop-cons ys i noSession l) ∙ taken _ _ all) ∙ so)
+step counting of ys i v l all so r e = rw (add-one, e) (sym (ap (onward counting of v) (drop-cons ys i noSession l) ∙ taken _ _ all) ∙ so)
 
 -- all of them, or all before one that is not sound
-last : (counting : Bool) (ys : List Session) (i : ℕ) (v : Survey) → i ≤ length ys → (ltb i (length ys) && v .sound) ≡ false → onward counting v (dropL i ys) ≡ surveyed counting ys → tallyBy counting v ≡ surveyed counting ys
+last : (counting : Bool) (of : Session → ℕ) (ys : List Session) (i : ℕ) (v : Survey) → i ≤ length ys → (ltb i (length ys) && v .sound) ≡ false → onward counting of v (dropL i ys) ≡ surveyed counting of ys → tallyBy counting v ≡ surveyed counting of ys
 unfolding onward
-last counting ys i v l over so = go (v .sound) refl (ltb i (length ys)) refl over
+last counting of ys i v l over so = go (v .sound) refl (ltb i (length ys)) refl over
   where
-    go : (b : Bool) → v .sound ≡ b → (m : Bool) → ltb i (length ys) ≡ m → (m && b) ≡ false → tallyBy counting v ≡ surveyed counting ys
-    go false e m f o = sym (onward-over counting v (dropL i ys) e) ∙ so
+    go : (b : Bool) → v .sound ≡ b → (m : Bool) → ltb i (length ys) ≡ m → (m && b) ≡ false → tallyBy counting v ≡ surveyed counting of ys
+    go false e m f o = sym (onward-over counting of v (dropL i ys) e) ∙ so
     go true e true f o = absurd (true≢false o)
-    go true e false f o = sym (ap (onward counting v) (ap (λ (k : ℕ). dropL k ys) (le-antisymm l (ltb-false i (length ys) f)) ∙ drop-length ys)) ∙ so
+    go true e false f o = sym (ap (onward counting of v) (ap (λ (k : ℕ). dropL k ys) (le-antisymm l (ltb-false i (length ys) f)) ∙ drop-length ys)) ∙ so
 
 module _ {M : Type 1} (𝓤 : URA M) (H : Heap 𝓤) (A : Atoms 𝓤) (mem : Memory → SProp 𝓤) (run : Routine → Fun 𝓤) where
   abbrev Turn : Contract 𝓤
@@ -146,7 +148,7 @@ module _ {M : Type 1} (𝓤 : URA M) (H : Heap 𝓤) (A : Atoms 𝓤) (mem : Mem
   abbrev Known : Tables 𝓤 H → Type 1
   Known 𝓣 = Triple 𝓤 (𝓣 .C #empty) Start × Triple 𝓤 (𝓣 .C #with) Turn × Triple 𝓤 (𝓣 .C #tally) End
 
-module _ {M : Type 1} (𝓤 : URA M) (H : Heap 𝓤) (A : Atoms 𝓤) (W : Given 𝓤 H A) (mem : Memory → SProp 𝓤) (run : Routine → Fun 𝓤) (κ : Lft) (q : Share) (b o : ℕ) (γ : GName) (ys : List Session) (counting : Bool) (gn : Room T.the-row (length ys)) (few : length ys ≤ mostSessions) where
+module _ {M : Type 1} (𝓤 : URA M) (H : Heap 𝓤) (A : Atoms 𝓤) (W : Given 𝓤 H A) (mem : Memory → SProp 𝓤) (run : Routine → Fun 𝓤) (κ : Lft) (q : Share) (b o : ℕ) (γ : GName) (ys : List Session) (co : Counted) (gn : Room T.the-row (length ys)) (gco : Good counted-data co) (few : length ys ≤ mostSessions) where
   abbrev row-ref : RefT (List Session)
   row-ref = record { ptr = (b, o); name = γ; now = ys }
 
@@ -154,11 +156,11 @@ module _ {M : Type 1} (𝓤 : URA M) (H : Heap 𝓤) (A : Atoms 𝓤) (W : Given
   row-val = sliceVal (b, o) (length ys)
 
   abbrev vals : List Val
-  vals = row-val ∷ vbool counting ∷ []
+  vals = row-val ∷ low counted-data co ∷ []
 
   -- what the contract binds
   abbrev y : walkOf 𝓤 H A f.ended stayed (f.clauses 𝓤 H A mem run) .Ghost
-  y = (((κ, tt), (q, tt), tt, (row-ref, (counting, tt)), (row-val ∷ [], (vbool counting ∷ [], tt))), tt)
+  y = (((κ, tt), (q, tt), tt, (row-ref, (co, tt)), (row-val ∷ [], (low counted-data co ∷ [], tt))), tt)
 
   abbrev Post : Val → SProp 𝓤
   Post = walkOf 𝓤 H A f.ended stayed (f.clauses 𝓤 H A mem run) .post y
@@ -170,23 +172,30 @@ module _ {M : Type 1} (𝓤 : URA M) (H : Heap 𝓤) (A : Atoms 𝓤) (W : Given
   abbrev Shared : Fml
   Shared = fshr-bor κ (λ s. arr-parts (shares T.the-row) (length ys) .part s ys b o)
 
-  exits : (r : Tally) → Good tally-data r → r ≡ surveyed counting ys → ent 𝓤 (⋆ 𝓤 H A (‵ (flft κ q) ∷ ‵ Row ∷ [])) (Post (low tally-data r))
+  -- what is counted, if anything is
+  abbrev Of : Session → ℕ
+  Of = noted co
+
+  abbrev Counting : Bool
+  Counting = counting co
+
+  exits : (r : Tally) → Good tally-data r → r ≡ surveyed Counting Of ys → ent 𝓤 (⋆ 𝓤 H A (‵ (flft κ q) ∷ ‵ Row ∷ [])) (Post (low tally-data r))
   exits r good is =
       qed W (‵ (flft κ q) ∷ ‵ Row ∷ []) ∵ suffices ! _ (ends-at 𝓤 H A f.ended stayed (f.clauses 𝓤 H A mem run) W y (low tally-data r) r (tt, (tt, tt)) (tt, (tt, tt))) $ says ! is $
-      nothing ! $ move ! (1 ∷ 0 ∷ []) $ join ! $ frame ! $ nothing ! $ makes-bool ! counting $ fjoin ! $ move ! (1 ∷ 0 ∷ []) $ fjoin ! $ frame ! $ makes ! tally-data r good $ done !
+      nothing ! $ move ! (1 ∷ 0 ∷ []) $ join ! $ frame ! $ nothing ! $ makes ! counted-data co gco $ fjoin ! $ move ! (1 ∷ 0 ∷ []) $ fjoin ! $ frame ! $ makes ! tally-data r good $ done !
 
   abbrev mach : ℕ → Val
   mach i = low session-data (sessionAt ys i)
 
   abbrev to-turn : Survey → ℕ → Turn 𝓤 H A mem run .Ghost
-  to-turn v i = ((tt, tt, tt, (v, (sessionAt ys i, (counting, tt))), (low survey-data v ∷ [], (mach i ∷ [], (vbool counting ∷ [], tt)))), tt)
+  to-turn v i = ((tt, tt, tt, (v, (sessionAt ys i, (co, tt))), (low survey-data v ∷ [], (mach i ∷ [], (low counted-data co ∷ [], tt)))), tt)
 
   abbrev to-end : Survey → End 𝓤 H A mem run .Ghost
-  to-end v = ((tt, tt, tt, (v, (counting, tt)), (low survey-data v ∷ [], (vbool counting ∷ [], tt))), tt)
+  to-end v = ((tt, tt, tt, (v, (co, tt)), (low survey-data v ∷ [], (low counted-data co ∷ [], tt))), tt)
 
   -- where the loop stands: at i, with the survey of those before it
   abbrev Upto : Type 0
-  Upto = (i : ℕ) × ((v : Survey) × ((i ≤ length ys) × (Good survey-data v × (onward counting v (dropL i ys) ≡ surveyed counting ys))))
+  Upto = (i : ℕ) × ((v : Survey) × ((i ≤ length ys) × (Good survey-data v × (onward Counting Of v (dropL i ys) ≡ surveyed Counting Of ys))))
 
   abbrev Nearer : Upto → Upto → Type 0
   Nearer j i = length ys - j .0 < length ys - i .0
@@ -232,18 +241,18 @@ module _ {M : Type 1} (𝓤 : URA M) (H : Heap 𝓤) (A : Atoms 𝓤) (W : Given
         elem-back ! T.the-row q′ ys i noSession (mach i ∷ []) b o (within goes) $ shuts-slice ! tt T.the-row q′ ys b o $ move ! (1 ∷ 0 ∷ []) $
         -- and surveyed
         asks ! (fmOf 𝓤 H (W .laws) 𝓣) (Turn 𝓤 H A mem run) (known .1) (to-turn v i) _ refl
-        (qed W [] ∵ nothing ! $ makes-bool ! counting $ fjoin ! $ makes ! session-data (sessionAt ys i) is $ fjoin ! $ makes ! survey-data v v-is $ fjoin ! $ done !)
-        (and-then ! (var ! %survey refl) (and-then ! (var ! %session refl) (and-then ! (var ! %counting refl) (no-more !)))) survey-data (lasts with.ended tt (v, (sessionAt ys i, (counting, tt)))) (λ r. r ≡ surveyedWith counting v (sessionAt ys i)) (λ w. id⊢ 𝓤 _) (λ r e good.
+        (qed W [] ∵ nothing ! $ makes ! counted-data co gco $ fjoin ! $ makes ! session-data (sessionAt ys i) is $ fjoin ! $ makes ! survey-data v v-is $ fjoin ! $ done !)
+        (and-then ! (var ! %survey refl) (and-then ! (var ! %session refl) (and-then ! (var ! %counted refl) (no-more !)))) survey-data (lasts with.ended tt (v, (sessionAt ys i, (co, tt)))) (λ r. r ≡ surveyedWith Counting Of v (sessionAt ys i)) (λ w. id⊢ 𝓤 _) (λ r e good.
         land ! (from ! (stop !)) (refills ! %survey refl (fits survey-data W r good .0)) $
         assigns-last ! (bin ! (var ! %k refl) (lit ! tt) (record { fits = next-fits goes })) (from ! (stop !)) (refills ! %k refl (tt, record { fits = next-fits goes })) $
-        keeps-only ! En (%row ∷ %counting ∷ %survey ∷ %k ∷ []) refl $
-        again ! Nearer At u (i + 1, (r, (add-one-le (within goes), (good, step counting ys i v (within goes) (and-second (ltb i (length ys)) (v .sound) (is-true _ goes)) (u .1 .1 .1 .1) r e)))) (add-one-dec (length ys) i (within goes))))))
+        keeps-only ! En (%row ∷ %counted ∷ %survey ∷ %k ∷ []) refl $
+        again ! Nearer At u (i + 1, (r, (add-one-le (within goes), (good, step Counting Of ys i v (within goes) (and-second (ltb i (length ys)) (v .sound) (is-true _ goes)) (u .1 .1 .1 .1) r e)))) (add-one-dec (length ys) i (within goes))))))
         (λ over. jumps ! $ exec ! C Λ En mir.t-4 (atRet En Post) $
         asks ! (fmOf 𝓤 H (W .laws) 𝓣) (End 𝓤 H A mem run) (known .2) (to-end v) _ refl
-        (qed W [] ∵ nothing ! $ makes-bool ! counting $ fjoin ! $ makes ! survey-data v v-is $ fjoin ! $ done !)
-        (and-then ! (var ! %survey refl) (and-then ! (var ! %counting refl) (no-more !))) tally-data (lasts tally.ended tt (v, (counting, tt))) (λ r. r ≡ tallyBy counting v) (λ w. id⊢ 𝓤 _) (λ r e good.
+        (qed W [] ∵ nothing ! $ makes ! counted-data co gco $ fjoin ! $ makes ! survey-data v v-is $ fjoin ! $ done !)
+        (and-then ! (var ! %survey refl) (and-then ! (var ! %counted refl) (no-more !))) tally-data (lasts tally.ended tt (v, (co, tt))) (λ r. r ≡ tallyBy Counting v) (λ w. id⊢ 𝓤 _) (λ r e good.
         lands-in ! %result refl (fits tally-data W r good .0) $ leaves ! En Post refl refl refl $ drop ! $
-        by ! (exits r good (e ∙ last counting ys i v (u .1 .1 .0) (is-false _ over) (u .1 .1 .1 .1)))))
+        by ! (exits r good (e ∙ last Counting Of ys i v (u .1 .1 .0) (is-false _ over) (u .1 .1 .1 .1)))))
       where
         i : ℕ
         i = u .0
@@ -268,12 +277,12 @@ module _ {M : Type 1} (𝓤 : URA M) (H : Heap 𝓤) (A : Atoms 𝓤) (W : Given
         asks ! (fmOf 𝓤 H (W .laws) 𝓣) (Start 𝓤 H A mem run) (known .0) ((tt, tt, tt, tt, tt), tt) _ refl (id⊢ 𝓤 _) (no-more !) survey-data (lasts empty-yet.ended tt tt) (λ r. r ≡ S.emptySurvey) (λ w. id⊢ 𝓤 _) (λ r e good.
         lands-in ! %survey refl (fits survey-data W r good .0) $
         sets ! %k (of-opd ! (lit ! tt)) refl (tt, record { fits = lit< tt }) $
-        first ! $ blocks ! $ loops ! 𝓣 Nearer Nearer-wf At turns (0, (r, (zero-le, (good, ap (λ (v : Survey). onward counting v ys) e ∙ onward-surveyed counting ys few)))))
+        first ! $ blocks ! $ loops ! 𝓣 Nearer Nearer-wf At turns (0, (r, (zero-le, (good, ap (λ (v : Survey). onward Counting Of v ys) e ∙ onward-surveyed Counting Of ys few)))))
 
   walk : (𝓣 : Tables 𝓤 H) → Known 𝓤 H A mem run 𝓣 → ent 𝓤 (onEntry 𝓤 H A f.signature (y .0 .0) (y .0 .1) (y .0 .3) (y .0 .4)) (WpFn 𝓤 H (𝓣 .C) (𝓣 .Λ) code.function vals Post)
   walk 𝓣 known =
-      qed W ((‵ (flft κ q) ⊛ ‵ ftrue) ∷ ‵ (owns (ShrSlice (named 0) κ T.the-row ∷ bool ∷ []) (y .0 .3) (y .0 .4)) ∷ []) ∵
-      enters ! (𝓣 .C) (𝓣 .Λ) code.function vals _ ((tt, (tt, (record { fits = gn .0 }, tt))), ((tt, tt), tt)) (λ bs. split ! $
+      qed W ((‵ (flft κ q) ⊛ ‵ ftrue) ∷ ‵ (owns (ShrSlice (named 0) κ T.the-row ∷ Q.the-row ∷ []) (y .0 .3) (y .0 .4)) ∷ []) ∵
+      enters ! (𝓣 .C) (𝓣 .Λ) code.function vals _ ((tt, (tt, (record { fits = gn .0 }, tt))), (fits counted-data W co gco .0, tt)) (λ bs. split ! $
       move ! (2 ∷ []) $ fsplit ! $ use1 W (‵ Row ⊛ ‵ Row) (shr-slice-copy 𝓤 H A W (named 0) κ T.the-row .twice row-ref (row-val ∷ [])) $ split ! $ fsplit ! $ drop ! $ fsplit ! $ drop ! $
       -- [the slice's borrow; what row owns; true; the token; true]
       move ! (2 ∷ 4 ∷ []) $ drop ! $ drop ! $ move ! (0 ∷ 2 ∷ []) $ starts 𝓣 known bs)
@@ -281,9 +290,9 @@ module _ {M : Type 1} (𝓤 : URA M) (H : Heap 𝓤) (A : Atoms 𝓤) (W : Given
 module _ {M : Type 1} (𝓤 : URA M) (H : Heap 𝓤) (A : Atoms 𝓤) (W : Given 𝓤 H A) (mem : Memory → SProp 𝓤) (run : Routine → Fun 𝓤) where
   tally-of-meets : (𝓣 : Tables 𝓤 H) → Known 𝓤 H A mem run 𝓣 → Meets 𝓤 H A f.signature (WpFn 𝓤 H (𝓣 .C) (𝓣 .Λ) code.function) (f.spec 𝓤 H A mem run)
   tally-of-meets 𝓣 known =
-      walk-meets 𝓤 H A f.ended stayed W (goes-none-slice 𝓤 H A W 1 (0 ∷ []) tt (plain (λ _. T.the-row)) yes, (goes-none 𝓤 H A W 1 (λ _. bool) yes (λ κs x f. refl), tt)) (f.clauses 𝓤 H A mem run) (WpFn 𝓤 H (𝓣 .C) (𝓣 .Λ) code.function) (WpFn-mono 𝓤 H (W .laws) 𝓣 code.function)
-      (walked 𝓤 H A f.ended stayed (f.clauses 𝓤 H A mem run) (WpFn 𝓤 H (𝓣 .C) (𝓣 .Λ) code.function) (λ κs. (slice-vals, (bool-vals, tt))) (λ κs. (shr-slice-tells (named 0) (κs .0) T.the-row, (bool-tells, tt)))
-      (λ κs qs bounds a g are. needs 𝓤 _ _ (λ few. walk 𝓤 H A W mem run (κs .0) (qs .0) (a .0 .ptr .0) (a .0 .ptr .1) (a .0 .name) (a .0 .now) (a .1 .0) (are .0 .0 .1) few 𝓣 known)))
+      walk-meets 𝓤 H A f.ended stayed W (goes-none-slice 𝓤 H A W 1 (0 ∷ []) tt (plain (λ _. T.the-row)) yes, (goes-none 𝓤 H A W 1 (λ _. Q.the-row) yes (λ κs x f. refl), tt)) (f.clauses 𝓤 H A mem run) (WpFn 𝓤 H (𝓣 .C) (𝓣 .Λ) code.function) (WpFn-mono 𝓤 H (W .laws) 𝓣 code.function)
+      (walked 𝓤 H A f.ended stayed (f.clauses 𝓤 H A mem run) (WpFn 𝓤 H (𝓣 .C) (𝓣 .Λ) code.function) (λ κs. (slice-vals, (LL.vals Q.the-type Q′.the-laws, tt))) (λ κs. (shr-slice-tells (named 0) (κs .0) T.the-row, (LL.tells Q.the-type Q′.the-laws, tt)))
+      (λ κs qs bounds a g are. needs 𝓤 _ _ (λ few. walk 𝓤 H A W mem run (κs .0) (qs .0) (a .0 .ptr .0) (a .0 .ptr .1) (a .0 .name) (a .0 .now) (a .1 .0) (are .0 .0 .1) (are .1 .0) few 𝓣 known)))
 
 pub tally-of-spec : {M : Type 1} → stated.statement M
 unfolding code.routine tablesOf

@@ -1,5 +1,5 @@
 -- `tacit::tacit_row_count` meets its contract: a walk of its MIR. Where the row is one, it is lent on for the pass as it was lent, and the tally goes to
--- `Tally::count`; else the refusal is made. Cut at the test. Assumes nothing.
+-- `Tally::count_by`; else the refusal is made. Cut at the test. Assumes nothing.
 use mathlib.Core.Path.{_≡_, refl, ap, _∙_}
 use Prim.Native.Nat.{ℕ, _+_, _<_, _^_}
 use mathlib.Core.Bool.{true, false}
@@ -21,7 +21,7 @@ use contract.Monad.{Fun}
 use contract.Running.{givenOf, tables, tablesOf}
 use types.Kit as Kit
 use types.Kit.{Given, anyQ, Item, Sq, runs, ‵, _⊛_, ⋆, atRet, _$_, _∵_, !, qed, by, move, drop, use1, split, join, fsplit, fjoin, suffices, frame, done}
-use types.Run.{lit, true-lit, of-opd, bin, and-then, no-more, first, skips, branches, exec}
+use types.Run.{lit, of-opd, bin, and-then, no-more, first, skips, branches, exec}
 use sound.WpLaws.{FmC, fmOf, WpFn-mono}
 use denote.RattleType.{owns}
 use denote.Laws.{Is}
@@ -40,22 +40,28 @@ use denote.Triple.Walked.{says, Stays, stay-none, stay-none-slice, walkOf, goes-
 use denote.Exit.{yes}
 use Rattle.session.specs.declared.Session.{Session}
 use Rattle.session.proofs.Session as T
+use Rattle.row.specs.declared.Counted.{Counted}
 use Rattle.row.specs.declared.Tally.{Tally}
 use Rattle.row.specs.declared.Count.{Count}
 use Rattle.refusals.specs.Refusals.{outsideRow}
 use Rattle.row.specs.Row.{isRow, notCounted, countOf}
-use Rattle.row.specs.Counting.{countBy}
+use Rattle.row.specs.Counting.{applicationsCounted, counting, noted, countBy}
+use Rattle.row.specs.Survey.{surveyed}
 use Rattle.row.specs.Limiting.{mostSessions}
 use Rattle.row.proofs.Tallied.{not-counted}
 use Rattle.row.proofs.Found.{count-found}
 use Rattle.row.proofs.Locals.{Blocks, env, locals, holding, enters, leaves, var, part, sets, lands-in}
-use Rattle.row.proofs.Walk.{Lent, Data, tally-data, low, Good, fits, makes, asks, then-of, is-true, is-false}
+use Rattle.row.proofs.Walk.{Lent, Data, counted-data, tally-data, low, Good, fits, makes, asks, then-of, is-true, is-false}
 use Rattle.row.proofs.uncounted as none
 use Rattle.row.proofs.uncounted.Symbol as none-def
 use Rattle.row.proofs.uncounted.Symbol.{name as #uncounted}
 use Rattle.row.proofs.uncounted.Met as none-thm
 use Rattle.row.proofs.Count as N
 use Rattle.row.proofs.Count.Laws as N′
+use Rattle.row.proofs.Counted.applications as applications
+use Rattle.row.proofs.Counted.applications.Symbol as applications-def
+use Rattle.row.proofs.Counted.applications.Symbol.{name as #applications}
+use Rattle.row.proofs.Counted.applications.Met as applications-thm
 use Rattle.row.proofs.tally_of.Symbol as pass-def
 use Rattle.row.proofs.tally_of.Symbol.{name as #pass}
 use Rattle.row.proofs.tally_of.Met as pass-thm
@@ -86,8 +92,11 @@ abbrev %row : ℕ
 abbrev %ta-id : ℕ
 %ta-id = %row + 1
 
+abbrev %counted : ℕ
+%counted = %ta-id + 1
+
 abbrev %tally : ℕ
-%tally = %ta-id + 1
+%tally = %counted + 1
 
 abbrev %length : ℕ
 %length = %tally + 1
@@ -113,9 +122,12 @@ module _ {M : Type 1} (𝓤 : URA M) (H : Heap 𝓤) (A : Atoms 𝓤) (mem : Mem
   abbrev Uncounted : Contract 𝓤
   Uncounted = tripleOf 𝓤 H A none.signature (none.spec 𝓤 H A mem run)
 
-  -- the three functions that are called meet their contracts
+  abbrev Applications : Contract 𝓤
+  Applications = tripleOf 𝓤 H A applications.signature (applications.spec 𝓤 H A mem run)
+
+  -- the functions that are called meet their contracts
   abbrev Known : Tables 𝓤 H → Type 1
-  Known 𝓣 = Triple 𝓤 (𝓣 .C #pass) (Passing 𝓤 H A mem run) × Triple 𝓤 (𝓣 .C #count) Counting × Triple 𝓤 (𝓣 .C #uncounted) Uncounted
+  Known 𝓣 = Triple 𝓤 (𝓣 .C #pass) (Passing 𝓤 H A mem run) × Triple 𝓤 (𝓣 .C #count) Counting × Triple 𝓤 (𝓣 .C #uncounted) Uncounted × Triple 𝓤 (𝓣 .C #applications) Applications
 
 module _ {M : Type 1} (𝓤 : URA M) (H : Heap 𝓤) (A : Atoms 𝓤) (W : Given 𝓤 H A) (mem : Memory → SProp 𝓤) (run : Routine → Fun 𝓤) (κ : Lft) (q : Share) (b o : ℕ) (γ : GName) (ys : List Session) (n : ℕ) (gn : Room T.the-row (length ys)) (gm : n < 2 ^ 32) where
   abbrev row-ref : RefT (List Session)
@@ -166,13 +178,15 @@ module _ {M : Type 1} (𝓤 : URA M) (H : Heap 𝓤) (A : Atoms 𝓤) (W : Given
 
     inside : isRow ys ≡ true → Sq W Tested (runs (𝓣 .C) (𝓣 .Λ) En (then-of mir.s-6) Then)
     inside there =
+        asks ! fm (Applications 𝓤 H A mem run) (known .3) ((tt, tt, tt, tt, tt), tt) _ refl (id⊢ 𝓤 _) (no-more !) counted-data (lasts applications.ended tt tt) (λ c. c ≡ applicationsCounted) (λ v. id⊢ 𝓤 _) (λ co is-co gco.
+        lands-in ! %counted refl (fits counted-data W co gco .0) $
         move ! (1 ∷ []) $ use1 W (‵ Row ⊛ ‵ Row) (shr-slice-copy 𝓤 H A W (named 0) κ T.the-row .twice row-ref (row-val ∷ [])) $ split ! $ move ! (2 ∷ 0 ∷ []) $
-        passes ! mem run κ q row-ref true (leb-true (length ys) mostSessions (and-second (ltb 0 (length ys)) (leb (length ys) mostSessions) there)) fm (known .0) (and-then ! (var ! %row refl) (and-then ! (true-lit !) (no-more !))) (λ t said good.
+        passes ! mem run κ q row-ref co (leb-true (length ys) mostSessions (and-second (ltb 0 (length ys)) (leb (length ys) mostSessions) there)) gco fm (known .0) (and-then ! (var ! %row refl) (and-then ! (var ! %counted refl) (no-more !))) (λ t said good.
         lands-in ! %tally refl (fits tally-data W t good .0) $
         asks ! fm (Counting 𝓤 H A mem run) (known .1) (to-count t) _ refl (qed W [] ∵ nothing ! $ owned ! u32 (Is u32) (uint-makes 𝓤 H A W w32) n _ (refl, gm) $ fjoin ! $ makes ! tally-data t good $ fjoin ! $ done !)
         (and-then ! (var ! %tally refl) (and-then ! (var ! %ta-id refl) (no-more !))) count-data (lasts count.ended tt (t, (n, tt))) (λ c. c ≡ countBy t n) (λ v. id⊢ 𝓤 _) (λ c counted made.
         lands-in ! %result refl (fits count-data W c made .0) $ leaves ! En Post refl refl refl $
-        by ! (exits c made (counted ∙ ap (λ (t : Tally). countBy t n) said ∙ count-found ys n there))))
+        by ! (exits c made (counted ∙ ap (λ (t : Tally). countBy t n) (said ∙ ap (λ (c : Counted). surveyed (counting c) (noted c) ys) is-co) ∙ count-found ys n there)))))
 
     outside : isRow ys ≡ false → Sq W Tested (runs (𝓣 .C) (𝓣 .Λ) En mir.t-7 (atRet En Post))
     outside no-row =
@@ -209,4 +223,5 @@ tacit-row-count-spec 𝓤 H 𝓜 𝓖 𝓡 =
       cited 𝓤 H (Passing 𝓤 H (𝓖 .A) (𝓜 .mem) (𝓡 .run)) 𝓜 𝓡 code.env #pass pass-def.routine code.calls-row·tally-of (pass-thm.met 𝓤 H 𝓜 𝓖 𝓡),
       cited 𝓤 H (Counting 𝓤 H (𝓖 .A) (𝓜 .mem) (𝓡 .run)) 𝓜 𝓡 code.env #count count-def.routine code.calls-row·Tally·count-by (count-thm.met 𝓤 H 𝓜 𝓖 𝓡),
       cited 𝓤 H (Uncounted 𝓤 H (𝓖 .A) (𝓜 .mem) (𝓡 .run)) 𝓜 𝓡 code.env #uncounted none-def.routine code.calls-row·uncounted (none-thm.met 𝓤 H 𝓜 𝓖 𝓡),
+      cited 𝓤 H (Applications 𝓤 H (𝓖 .A) (𝓜 .mem) (𝓡 .run)) 𝓜 𝓡 code.env #applications applications-def.routine code.calls-row·Counted·applications (applications-thm.met 𝓤 H 𝓜 𝓖 𝓡),
     ))

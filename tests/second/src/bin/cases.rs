@@ -1,7 +1,7 @@
 //! Prints what the calls on standard input come to, a line for each. The head
 //! of make_cases.rs says how calls and lines are written.
 
-use second::{Answer, Fields, Limits, Part, Settings, RECORD_LENGTH};
+use second::{Answer, Fields, Limits, Part, Settings, Totals, RECORD_LENGTH};
 use std::io::{self, Read, Write};
 
 /// Octets of input that are read.
@@ -219,6 +219,12 @@ fn call(input: &mut Input, record: &mut [u8; RECORD_LENGTH]) -> Option<Line> {
             line.number(want.refusal);
             line.number(want.wanted);
         }
+        21 => {
+            let totals = Totals { of: input.array()? };
+            let total = second::kind_total(totals, input.number()?);
+            line.number(total.refusal);
+            line.number(total.total);
+        }
         _ => return None,
     }
     Some(line)
@@ -263,6 +269,7 @@ mod tests {
         assert_eq!(lines(&[[18].as_slice(), &[0; 9]].concat()), "");
         assert_eq!(lines(&[19, 0, 0, 0, 0]), "");
         assert_eq!(lines(&[[20].as_slice(), &[0; 7]].concat()), "");
+        assert_eq!(lines(&[[21].as_slice(), &[0; 13]].concat()), "");
         assert_eq!(lines(&[11, 0, 11]), "b 0\n");
     }
 }

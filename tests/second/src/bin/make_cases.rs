@@ -35,16 +35,18 @@
 //! |    |                 | the room (1)                                       |
 //! | 19 | SAC of wishes   | wishes (4), length of the room (1)                 |
 //! | 20 | wanted          | wishes (4), kind (4)                               |
+//! | 21 | total of a kind | totals (10), kind (4)                              |
 //!
 //! Roles from bit 0: initiating, active, uses TAC, drops; the other bits are not
-//! read. Limits are an octet for each application, from TA-Id 1 on. A session is
-//! its fields: state (1), flags (1), disabled (1), enabled (2), listed (2),
-//! protected kinds (2), Hello number (4), next message number (4). A room has as
-//! many octets as asked for, but never more than 40, and each is 0xEE before the
-//! call. `load` reads the record, and `store` leaves it alone. The wishes of a call
-//! are those that it is given: none are kept from one call to the next. The run
-//! ends at the end of the input, at a call whose arguments are cut short, and at
-//! any other number. What lies beyond 32,768 octets is not read.
+//! read. Limits are an octet for each application, from TA-Id 1 on; totals are one
+//! for each kind, from kind 0 on. A session is its fields: state (1), flags (1),
+//! disabled (1), enabled (2), listed (2), protected kinds (2), Hello number (4), next
+//! message number (4). A room has as many octets as asked for, but never more than
+//! 40, and each is 0xEE before the call. `load` reads the record, and `store` leaves
+//! it alone. The wishes and the totals of a call are those that it is given: none are
+//! kept from one call to the next. The run ends at the end of the input, at a call
+//! whose arguments are cut short, and at any other number. What lies beyond 32,768
+//! octets is not read.
 //!
 //! # The lines
 //!
@@ -70,6 +72,7 @@
 //! |  18 | refusal, outcome, lost, gained, written, wishes, record, room      |
 //! |  19 | refusal, written, room                                             |
 //! |  20 | refusal, wanted                                                    |
+//! |  21 | refusal, total                                                     |
 
 use std::io::{self, Write};
 
@@ -237,6 +240,12 @@ impl Calls {
     fn wanted(&mut self, wishes: u32, kind: u32) {
         self.octets(&[20]);
         self.number(wishes);
+        self.number(kind);
+    }
+
+    fn kind_total(&mut self, totals: [u8; 10], kind: u32) {
+        self.octets(&[21]);
+        self.octets(&totals);
         self.number(kind);
     }
 
@@ -716,6 +725,27 @@ fn bindings_wanted(calls: &mut Calls) {
     }
 }
 
+/// Totals are answered as they stand, whatever they are.
+fn totals(calls: &mut Calls) {
+    let edges = [0, 1, 63, 64, 65, 66, 127, 128, 200, 255];
+    for kind in 0..10 {
+        calls.kind_total(edges, kind);
+        calls.kind_total([0; 10], kind);
+        calls.kind_total([255; 10], kind);
+    }
+    // each kind by a total of its own
+    for kind in 0..10 {
+        let mut one = [64; 10];
+        one[kind] = 7;
+        calls.kind_total(one, kind as u32);
+    }
+    // 6
+    for kind in [10, 11, 16, 0x100, 0x109, 0x1_0000, 0x8000_0000, 0xFFFF_FFFF] {
+        calls.kind_total(edges, kind);
+        calls.kind_total([1; 10], kind);
+    }
+}
+
 fn all() -> Vec<u8> {
     let mut calls = Calls(Vec::new());
     examples(&mut calls);
@@ -737,6 +767,7 @@ fn all() -> Vec<u8> {
     wishes_refused(&mut calls);
     wishes_in_initialization(&mut calls);
     bindings_wanted(&mut calls);
+    totals(&mut calls);
     assert!(calls.0.len() <= MOST, "{} octets", calls.0.len());
     calls.0
 }

@@ -65,7 +65,7 @@ fn a_count_is_what_was_gained_less_what_was_lost() {
                 numbers.area(),
             );
             let before = row.clone();
-            let answer = row_event(&mut row, at, event, limits, &area, &mut [0; 17]);
+            let answer = happened(&mut row, at, event, limits, &area, &mut [0; 17]);
             times[usize::from(answer.outcome)] += 1;
             let (had, has) = (negotiated(&before[at]), negotiated(&row[at]));
             for (bit, kept) in kept.iter_mut().enumerate() {

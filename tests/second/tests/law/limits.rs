@@ -24,7 +24,7 @@ fn row(users: usize, ta_ids: &[u32]) -> Vec<Fields> {
 
 /// What an Initialization of the last session comes to.
 fn opens(row: &mut [Fields], limits: Limits, listed: &[u32]) -> Answer {
-    row_initialization(row, row.len() - 1, limits, &tac(listed))
+    initialized(row, row.len() - 1, limits, &tac(listed))
 }
 
 fn count(row: &[Fields], ta_id: u32) -> u8 {
@@ -149,7 +149,7 @@ fn at_its_limit_a_session_goes_where_a_mismatch_leads() {
         let area = hex("850F0005 80 00048000 85060001 80 850D0002 80 A0");
         let mut row = [session.loaded()];
         let limits = limited(&[(4, 0)]);
-        assert_eq!(row_initialization(&mut row, 0, limits, &area), at_limit());
+        assert_eq!(initialized(&mut row, 0, limits, &area), at_limit());
         let mut told = session;
         assert_eq!(mismatch(&mut told.0), mismatched(0));
         assert_eq!(row[0], told.loaded());
@@ -175,7 +175,7 @@ fn negotiation_not_in_force_is_not_limited_and_counts_for_none() {
         };
         let mut row = [made.make().loaded(); 2];
         for at in [0, 1] {
-            let answer = row_initialization(&mut row, at, none, &area);
+            let answer = initialized(&mut row, at, none, &area);
             assert_eq!(answer, done(0, ALL_KINDS));
         }
         assert_eq!(count(&row, 4), 0);
@@ -187,18 +187,12 @@ fn refusals_come_before_the_limits() {
     let none = Limits { of: [0; 13] };
     let mut open = row(2, &[4]);
     let before = open.clone();
-    assert_eq!(
-        row_initialization(&mut open, 0, none, &tac(&[4])),
-        refused(7)
-    );
+    assert_eq!(initialized(&mut open, 0, none, &tac(&[4])), refused(7));
     for (area, refusal) in [("850F0005 80", 2), ("850F0000", 3), ("06000000", 4)] {
-        let answer = row_initialization(&mut open, 2, none, &hex(area));
+        let answer = initialized(&mut open, 2, none, &hex(area));
         assert_eq!(answer, refused(refusal));
     }
-    assert_eq!(
-        row_initialization(&mut open, 2, none, &[0; 4097]),
-        refused(1)
-    );
+    assert_eq!(initialized(&mut open, 2, none, &[0; 4097]), refused(1));
     assert_eq!(open, before);
 }
 
@@ -208,7 +202,7 @@ fn limits_are_read_at_an_initialization_only() {
     // A Capability message and a local change may both take 7 to use.
     let area = hex("850F0009 80 00048000 00028000 85060001 80");
     let mut row = [Made::enabling(&[4, 7]).make().loaded()];
-    row_initialization(&mut row, 0, no_limits(), &area);
+    initialized(&mut row, 0, no_limits(), &area);
     let mut room = [0; 17];
     let mut happens = |which, ta_id, area: &[u8]| {
         let event = Event {
@@ -217,7 +211,7 @@ fn limits_are_read_at_an_initialization_only() {
             on: 1,
             number: 0,
         };
-        row_event(&mut row, 0, event, none, area, &mut room)
+        happened(&mut row, 0, event, none, area, &mut room)
     };
     assert_eq!(happens(1, 0, &tac(&[7])), done(0, kinds(&[8])));
     let answer = happens(2, 2, &[]);
@@ -231,14 +225,13 @@ fn a_session_that_closes_makes_place_for_another() {
     let mut row = row(2, &[4]);
     assert_eq!(opens(&mut row, limits, &[4]), at_limit());
     assert_eq!(row[2].state, HELD);
-    row_hello(&mut row, 2, 1);
-    row_hello(&mut row, 2, 2);
-    assert_eq!(row_closed(&mut row, 0), done(kinds(&[0]), 0));
+    for number in [1, 2] {
+        with_totals(&mut row, |row, totals| row_hello(row, 2, totals, number));
+    }
+    let closed = with_totals(&mut row, |row, totals| row_closed(row, 0, totals));
+    assert_eq!(closed, done(kinds(&[0]), 0));
     assert_eq!(opens(&mut row, limits, &[4]), done(0, kinds(&[0])));
-    assert_eq!(
-        row_initialization(&mut row, 0, limits, &tac(&[4])),
-        at_limit()
-    );
+    assert_eq!(initialized(&mut row, 0, limits, &tac(&[4])), at_limit());
 }
 
 #[test]

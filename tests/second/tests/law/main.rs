@@ -9,6 +9,7 @@ mod rfc;
 mod rows;
 mod states;
 mod stored;
+mod totals;
 mod why;
 mod widening;
 mod wishes;
@@ -199,6 +200,52 @@ pub fn stored(session: Fields) -> Box22 {
     let mut record = [0x5C; RECORD_LENGTH];
     assert_eq!(store(session, &mut record), 0);
     Box22(record)
+}
+
+/// How many sessions of a row permit each kind, by a walk over them.
+pub fn walked(row: &[Fields]) -> Totals {
+    let mut totals = Totals::default();
+    for &session in row {
+        let kinds = session_kinds(session).kinds;
+        for (kind, total) in totals.of.iter_mut().enumerate() {
+            *total += (kinds >> kind & 1) as u8;
+        }
+    }
+    totals
+}
+
+/// An event of a row with the totals of that row, which are its totals after it too.
+pub fn with_totals(
+    row: &mut [Fields],
+    event: impl FnOnce(&mut [Fields], &mut Totals) -> Answer,
+) -> Answer {
+    let mut totals = walked(row);
+    let answer = event(row, &mut totals);
+    assert_eq!(totals, walked(row));
+    answer
+}
+
+/// The same for an Initialization.
+pub fn initialized(row: &mut [Fields], at: usize, limits: Limits, area: &[u8]) -> Answer {
+    with_totals(row, |row, totals| {
+        row_initialization(row, at, limits, totals, area)
+    })
+}
+
+/// The same for an event by its number.
+pub fn happened(
+    row: &mut [Fields],
+    at: usize,
+    event: Event,
+    limits: Limits,
+    area: &[u8],
+    room: &mut [u8],
+) -> Answer {
+    with_totals(row, |row, totals| {
+        let after = row_event(row, at, event, limits, *totals, area, room);
+        *totals = after.totals;
+        after.answer
+    })
 }
 
 /// A TAC that lists these applications.

@@ -37,7 +37,7 @@ fn event(which: u32) -> Event {
 /// Any event, with room to spare.
 fn happens(row: &mut [Fields], at: usize, event: Event, area: &[u8]) -> (Answer, [u8; 20]) {
     let mut room = [0x66; 20];
-    let answer = row_event(row, at, event, no_limits(), area, &mut room);
+    let answer = happened(row, at, event, no_limits(), area, &mut room);
     (answer, room)
 }
 
@@ -223,7 +223,7 @@ fn an_event_does_in_a_row_what_it_does_to_a_record() {
             let expected = to_a_record(&mut record, event, &hex(area), &mut expected_room);
             let mut used = row.clone();
             let mut room = vec![0x66; length];
-            let answer = row_event(&mut used, at, event, no_limits(), &hex(area), &mut room);
+            let answer = happened(&mut used, at, event, no_limits(), &hex(area), &mut room);
             assert_eq!(answer, expected);
             assert_eq!(room, expected_room);
             assert_eq!(used[at], record.loaded());
@@ -264,16 +264,17 @@ fn any_number_but_0_is_on() {
 fn every_event_has_a_number_and_a_name() {
     let area = hex("85060001 80 850F0005 80 00048000");
     let fresh = Made::enabling(&[4, 7]).make().loaded();
-    let mut room = [0; 17];
+    let (mut room, mut kept) = ([0; 17], Totals::default());
     let mut by_number = vec![fresh; 2];
     let mut by_name = vec![fresh; 2];
+    let (row, kept) = (&mut by_name[..], &mut kept);
     for (which, named) in [
-        (4, row_hello(&mut by_name, 1, 9)),
-        (0, row_initialization(&mut by_name, 1, no_limits(), &area)),
-        (1, row_capability(&mut by_name, 1, &area)),
-        (2, row_local_change(&mut by_name, 1, 4, true, &mut room)),
-        (5, row_closed(&mut by_name, 1)),
-        (3, row_mismatch(&mut by_name, 1)),
+        (4, row_hello(row, 1, kept, 9)),
+        (0, row_initialization(row, 1, no_limits(), kept, &area)),
+        (1, row_capability(row, 1, kept, &area)),
+        (2, row_local_change(row, 1, kept, 4, true, &mut room)),
+        (5, row_closed(row, 1, kept)),
+        (3, row_mismatch(row, 1, kept)),
     ] {
         assert_eq!(happens(&mut by_number, 1, event(which), &area).0, named);
         assert_eq!(named.refusal, 0);
