@@ -1,12 +1,13 @@
--- The values of TAC and SAC are parts of the area that was read, and after a refusal they have no octets. What one TLV keeps of a reading the
--- whole reading has, so each fact is shown of what is found with each of our types. Assumes nothing.
+-- The values of TAC and SAC are parts of the area that was read, after a refusal they have no octets, and a refusal is one of 1 to 5. What one TLV keeps of a
+-- reading the whole reading has, so each fact is shown of what is found with each of our types. Assumes nothing.
 use Prim.Native.Nat.{ℕ, zero, suc, _+_, _-_, _≤_, _<_}
 use native.Mathlib.Omega.{arith}
 use mathlib.Core.Path.{refl}
 use mathlib.Core.List.{List, [], _∷_}
 use lib.ListN.{length}
+use lib.Dec.{lit≤}
 use borrow.Author.Tests.{ltb-false, leb-false}
-use Rattle.refusals.specs.Refusals.{notRefused, areaTooLong, cutShort, unknownType}
+use Rattle.refusals.specs.Refusals.{notRefused, areaTooLong, cutShort, unknownType, repeated}
 use Rattle.choice.proofs.Branch.{by-test}
 use Rattle.area.specs.declared.Span.{Span}
 use Rattle.area.specs.declared.Reading.{Reading}
@@ -15,7 +16,7 @@ use Rattle.area.specs.Parts.{Inside, Bare, PartsInside, NothingAfterRefu
 use Rattle.area.specs.Area.{areaMost, headLength, OurType, ourTypes, at16, takeTlv, passOther, among, byType, tlvAt, nextAt, readFrom, readArea}
 
 -- what holds of every refusal and of what is found with each of our types holds of the whole reading
-module _ (P : List ℕ → Reading → Type 0) (none : (a : List ℕ) (n : ℕ) → P a (refused n)) where
+module _ (P : List ℕ → Reading → Type 0) (none : (a : List ℕ) (n : ℕ) → n ≤ repeated → P a (refused n)) where
   abbrev Keeps : List OurType → Type 0
   Keeps [] = Unit {0}
   Keeps (t ∷ ts) = ((a : List ℕ) (value : Span) (r : Reading) → value .start + value .len ≤ length a → P a r → P a (t .found value r)) × Keeps ts
@@ -23,18 +24,18 @@ module _ (P : List ℕ → Reading → Type 0) (none : (a : List ℕ) (n : ℕ) 
   of-types : (ts : List OurType) → Keeps ts → (a : List ℕ) (head : ℕ) (value : Span) (r : Reading) → value .start + value .len ≤ length a → P a r
       → P a (among ts head value r)
   unfolding takeTlv passOther
-  of-types [] k a head value r h w = by-test (P a) (λ _. w) (λ _. none a unknownType)
+  of-types [] k a head value r h w = by-test (P a) (λ _. w) (λ _. none a unknownType (lit≤ tt))
   of-types (t ∷ ts) k a head value r h w =
       by-test (P a)
-      (λ _. by-test (P a) (λ _. none a _) (λ _. by-test (P a) (λ _. none a _) (λ _. k .0 a value r h w)))
+      (λ _. by-test (P a) (λ _. none a _ (lit≤ tt)) (λ _. by-test (P a) (λ _. none a _ (lit≤ tt)) (λ _. k .0 a value r h w)))
       (λ _. of-types ts (k .1) a head value r h w)
 
   module _ (keeps : Keeps ourTypes) where
     tlv : (a : List ℕ) (at : ℕ) (r : Reading) → at < length a → P a r → P a (tlvAt a at r)
     unfolding tlvAt byType
     tlv a at r h w =
-        by-test (P a) (λ _. none a cutShort)
-        (λ p. by-test (P a) (λ _. none a cutShort)
+        by-test (P a) (λ _. none a cutShort (lit≤ tt))
+        (λ p. by-test (P a) (λ _. none a cutShort (lit≤ tt))
         (λ q. of-types ourTypes keeps a (at16 a at) (record { start = at + headLength; len = at16 a (at + 2) }) r
         (omega (arith, ltb-false (length a - at) headLength p, ltb-false (length a - at - headLength) (at16 a (at + 2)) q)) w))
 
@@ -48,13 +49,13 @@ module _ (P : List ℕ → Reading → Type 0) (none : (a : List ℕ) (n : ℕ) 
 
     whole : (a : List ℕ) → P a (readArea a)
     unfolding readArea
-    whole a = by-test (P a) (λ _. none a areaTooLong) (λ _. from (length a) a 0 nothingFound (none a notRefused))
+    whole a = by-test (P a) (λ _. none a areaTooLong (lit≤ tt)) (λ _. from (length a) a 0 nothingFound (none a notRefused (lit≤ tt)))
 
 abbrev Within-area : List ℕ → Reading → Type 0
 Within-area a r = Inside (length a) r
 
-none-inside : (a : List ℕ) (n : ℕ) → Within-area a (refused n)
-none-inside a n = omega arith
+none-inside : (a : List ℕ) (n : ℕ) → n ≤ repeated → Within-area a (refused n)
+none-inside a n _ = omega arith
 
 inside : (a : List ℕ) → Within-area a (readArea a)
 inside = whole Within-area none-inside (λ a v r h w. omega arith, (λ a v r h w. omega arith, (λ a v r h w. omega arith, tt)))
@@ -74,5 +75,9 @@ parts-inside a = (inside a, small a)
 
 pub nothing-after-refusal : NothingAfterRefusal
 nothing-after-refusal =
-    whole (λ a r. Bare r) (λ a n h. refl)
+    whole (λ a r. Bare r) (λ a n _ h. refl)
     (λ a v r h w n. absurd (n refl), (λ a v r h w n. absurd (n refl), (λ a v r h w n. absurd (n refl), tt)))
+
+-- one of the five, or none
+pub read-refusal : (a : List ℕ) → readArea a .refusal ≤ repeated
+read-refusal = whole (λ a r. r .refusal ≤ repeated) (λ a n l. l) (λ a v r h w. lit≤ tt, (λ a v r h w. lit≤ tt, (λ a v r h w. lit≤ tt, tt)))

@@ -91,6 +91,8 @@ calls-answer =
       tacit-no-limits = λ a r s p. p;
       tacit-set-limit = λ a r s p. p;
       tacit-row-count = λ κs a r s p. p;
+      tacit-kind-total = λ a r s p. p;
+      tacit-recount = λ κs a r s p. p;
     }
 
 -- ---- the question about a kind

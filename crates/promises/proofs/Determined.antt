@@ -5,7 +5,7 @@ use Rattle.choice.proofs.Determined.{by-equation, by-law, both-same}
 use Rattle.wishes.specs.Wishes.{wishesAfter}
 use Rattle.session.specs.declared.Answer.{Answer}
 use Rattle.tacit.specs.declared.Wished.{Wished}
-use Rattle.promises.specs.Determined.{SetsDetermined, KindsDetermined, OctetsDetermined, AreaDetermined, ListsDetermined, MessageDetermined, WishesDetermined, SessionDetermined, RecordDetermined, RowDetermined, TacitDetermined, AllDetermined}
+use Rattle.promises.specs.Determined.{SetsDetermined, KindsDetermined, OctetsDetermined, AreaDetermined, ListsDetermined, MessageDetermined, WishesDetermined, SessionDetermined, RecordDetermined, TotalsDetermined, RowDetermined, TacitDetermined, AllDetermined}
 
 sets-determined : SetsDetermined
 sets-determined =
@@ -83,6 +83,7 @@ session-determined =
     record {
       new = by-equation _;
       sound = by-equation _;
+      permitted = by-equation _;
       permitted-kinds = by-equation _;
       permission = by-equation _;
       why-not = by-equation _;
@@ -114,15 +115,23 @@ record-determined =
       store = λ κs. by-law _ (λ a r s p. both-same (p .0) (p .1));
     }
 
+totals-determined : TotalsDetermined
+totals-determined = record { totalled = by-equation _; of-kind = by-equation _ }
+
 row-determined : RowDetermined
 row-determined =
     record {
+      applications = by-equation _;
+      kinds = by-equation _;
+      counted = by-equation _;
       no-limits = by-equation _;
       limited = by-equation _;
       count-by = by-equation _;
       event-in = λ κs. by-law _ (λ a r s p. both-same (p .0) (p .1));
       outside = by-equation _;
       uncounted = by-equation _;
+      recount-by = by-equation _;
+      untotalled = by-equation _;
       tally-of = λ κs. by-equation _;
     }
 
@@ -155,6 +164,8 @@ tacit-determined =
       tacit-no-limits = by-equation _;
       tacit-set-limit = by-equation _;
       tacit-row-count = λ κs. by-equation _;
+      tacit-kind-total = by-equation _;
+      tacit-recount = λ κs. by-equation _;
       tacit-row-event = λ κs. by-law _ (λ a r s p. both-same (p .0) (both-same (p .1) (p .2)));
     }
 
@@ -170,6 +181,7 @@ all-determined =
       wishes = wishes-determined;
       session = session-determined;
       records = record-determined;
+      totals = totals-determined;
       row = row-determined;
       tacit = tacit-determined;
     }

@@ -20,18 +20,20 @@ use Rattle.session.specs.Events.{afterInitialization, onInitialization, listAft
 use Rattle.row.specs.Limiting.{capped}
 use Rattle.row.specs.Events.{eventOf}
 use Rattle.session.proofs.View.{in-more}
-use Rattle.row.specs.Row.{count, belowLimit, allSound, eventAt}
+use Rattle.totals.specs.Totals.{totalAfter, goesOutside, movedEach, oneOutside, totalsAfter, anyOutside, totalled, kindTotal}
+use Rattle.row.specs.Row.{howMany, belowLimit, allSound, eventAt, walked, recount}
 use Rattle.promises.specs.Examples.{Examples, WhyItStops, WhyAtThatMoment, FurtherKind}
 use Rattle.promises.specs.RowExamples.{RowExamples, WhyTheOneSession}
+use Rattle.promises.specs.TotalExamples.{TotalExamples}
 use Rattle.promises.specs.WishExamples.{WishExamples}
 
-computed : Examples × (WhyItStops × (WhyAtThatMoment × (FurtherKind × (RowExamples × (WhyTheOneSession × WishExamples)))))
+computed : Examples × (WhyItStops × (WhyAtThatMoment × (FurtherKind × (RowExamples × (WhyTheOneSession × (WishExamples × TotalExamples))))))
 unfolding
     pick has common union minus with without empty below within numbered switched chosen isIn setOf opens controlled gather opened disables over at16 takeTlv
     passOther byType tlvAt readFrom readArea part sBit idAt eAt stood after tacList sacElement sacAfter sacList roomWith nothingCommon spareZero forceSound
     listedSound openSound helloSound heldSound goneSound sound permitted mismatched heldToReady raised used atLimit answered settled afterInitialization
-    onInitialization listAfter flagsAfter afterCapability onCapability writing onLocalChange onHello roomAfter capped eventOf count belowLimit allSound
-    eventAt wishElements sacFor soundWishes wishesAfter wanted wishSac sacRoom telling onWish onClosed
+    onInitialization listAfter flagsAfter afterCapability onCapability writing onLocalChange onHello roomAfter capped eventOf howMany belowLimit allSound
+    eventAt totalAfter goesOutside movedEach oneOutside totalsAfter anyOutside totalled kindTotal walked recount wishElements sacFor soundWishes wishesAfter wanted wishSac sacRoom telling onWish onClosed
 computed = (
   record {
     one = refl;
@@ -77,31 +79,46 @@ computed = (
           record { two-open = refl; third = refl; third-ready = refl; fourth = refl; both = refl; passed = refl },
           (
             record { first-row = refl; second-row = refl },
-            record {
-              told = refl;
-              taken-back = refl;
-              kept = refl;
-              spare = refl;
-              no-app = refl;
-              unchanged = refl;
-              ready = refl;
-              not-dynamic = refl;
-              thirteen = refl;
-              fourteen = refl;
-              two = refl;
-              none = refl;
-              no-room = refl;
-              empty-room = refl;
-              stays = refl;
-              opened = refl;
-              disabled = refl;
-              more = refl;
-              not-wanted = refl;
-              is-wanted = refl;
-              no-kind = refl;
-              unsound = refl;
-              outlives = refl;
-            },
+            (
+              record {
+                told = refl;
+                taken-back = refl;
+                kept = refl;
+                spare = refl;
+                no-app = refl;
+                unchanged = refl;
+                ready = refl;
+                not-dynamic = refl;
+                thirteen = refl;
+                fourteen = refl;
+                two = refl;
+                none = refl;
+                no-room = refl;
+                empty-room = refl;
+                stays = refl;
+                opened = refl;
+                disabled = refl;
+                more = refl;
+                not-wanted = refl;
+                is-wanted = refl;
+                no-kind = refl;
+                unsound = refl;
+                outlives = refl;
+              },
+              record {
+                two = refl;
+                one-left = refl;
+                loses-65 = refl;
+                loses-66 = refl;
+                loses-0 = refl;
+                gains-63 = refl;
+                gains-64 = refl;
+                left-200 = refl;
+                asked = refl;
+                over-9 = refl;
+                recounted = refl;
+              },
+            ),
           ),
         ),
       ),
@@ -128,4 +145,7 @@ pub why-the-one-session : WhyTheOneSession
 why-the-one-session = computed .1 .1 .1 .1 .1 .0
 
 pub wish-examples : WishExamples
-wish-examples = computed .1 .1 .1 .1 .1 .1
+wish-examples = computed .1 .1 .1 .1 .1 .1 .0
+
+pub total-examples : TotalExamples
+total-examples = computed .1 .1 .1 .1 .1 .1 .1

@@ -5,6 +5,7 @@ pub mod Written
 pub mod Records
 pub mod Calls
 pub mod Rows
+pub mod RowTotals
 pub mod Limits
 pub mod RowCondition3
 pub mod RowCalls

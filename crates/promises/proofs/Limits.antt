@@ -36,9 +36,13 @@ use Rattle.row.specs.Limiting.{mostSessions, noLimits, capped, limitOf}
 use Rattle.row.specs.Events.{initializationNumber, eventOf}
 use Rattle.row.specs.Row.{sessionAt, uses, count, belowLimit, allSound, inRow, eventIn, eventAt}
 use Rattle.row.proofs.EventCases.{admits-own}
-use Rattle.row.proofs.Tallied.{capped-is, count-le}
-use Rattle.promises.specs.Rows.{RowEvent, rowStep, rowRun, TurnedAway, LimitIsMismatch, FindsCommon, BelowLimit, LimitDecides, LimitsDecide, BaseWhereNoLimitBinds, NoLimitBindsUnset}
+use Rattle.totals.specs.declared.Totalled.{Totalled}
+use Rattle.totals.proofs.Laws.{totalled-by}
+use Rattle.row.proofs.Tallied.{capped-is}
+use Rattle.row.proofs.HowMany.{how-many-lt}
+use Rattle.promises.specs.Rows.{TotalledRow, RowEvent, ownStep, rowStep, rowRun, opening, TurnedAway, LimitIsMismatch, FindsCommon, BelowLimit, LimitDecides, LimitsDecide, BaseWhereNoLimitBinds, NoLimitBindsUnset}
 use Rattle.promises.proofs.Rows.{sound-at}
+use Rattle.promises.proofs.RowTotals.{own-inside}
 
 -- ---- outcome 3
 module _ (row : List Session) (e : RowEvent) where
@@ -59,7 +63,7 @@ module _ (row : List Session) (e : RowEvent) where
     pub is : after ≡ step one own
 
   -- it is the session's own
-  away-means : rowStep row e .answer .outcome ≡ outcomeAtLimit → RowAway (rowStep row e)
+  away-means : ownStep row e .answer .outcome ≡ outcomeAtLimit → RowAway (ownStep row e)
   unfolding eventAt
   away-means = by-test Means (λ i. by-test Means (λ a _. record { inside = i; all-sound = a; is = refl }) (λ _ h. absurd (omega arith))) (λ _ h. absurd (omega arith))
     where
@@ -67,7 +71,7 @@ module _ (row : List Session) (e : RowEvent) where
       Means after = after .answer .outcome ≡ outcomeAtLimit → RowAway after
 
   -- the state as in a mismatch
-  as-mismatch : rowStep row e .answer .outcome ≡ outcomeAtLimit → TurnedAway one (rowStep row e)
+  as-mismatch : ownStep row e .answer .outcome ≡ outcomeAtLimit → TurnedAway one (ownStep row e)
   as-mismatch h =
       let found = away-means h in
       let r = one-sound (found .inside) (found .all-sound) in
@@ -77,21 +81,31 @@ module _ (row : List Session) (e : RowEvent) where
         answer = ap (λ (z : After). z .answer) (found .is) ∙ away-answer one r own there;
       }
 
+-- what totals refuse does not end in outcome 3, so an event that does is the event's own
+own-at-limit : (w : TotalledRow) (e : RowEvent) → rowStep w e .answer .outcome ≡ outcomeAtLimit → rowStep w e ≡ ownStep (w .sessions) e
+own-at-limit w e =
+    totalled-by (w .totals) (one (w .sessions) e) (ownStep (w .sessions) e)
+    (λ (t : Totalled). t .answer .answer .outcome ≡ outcomeAtLimit → record { session = t .session; answer = t .answer .answer } ≡ ownStep (w .sessions) e)
+    (λ _ h. absurd (omega arith)) (λ _ _. refl)
+
 pub limit-is-mismatch : LimitIsMismatch
-limit-is-mismatch row es e h = as-mismatch (rowRun row es) e h
+limit-is-mismatch w es e h =
+    let v = rowRun w es in
+    let own = own-at-limit v e h in
+    subst (TurnedAway (one (v .sessions) e)) (sym own) (as-mismatch (v .sessions) e (sym (ap (λ (a : After). a .answer .outcome) own) ∙ h))
 
 -- ---- where no limit binds
 pub base-where-no-limit-binds : BaseWhereNoLimitBinds
 unfolding eventAt eventOf
-base-where-no-limit-binds row e i f =
-    let there = taken _ _ (i .inside) ∙ taken _ _ (i .all-sound) in
+base-where-no-limit-binds w e i f =
+    let there = own-inside w e (i .equal-walk) ∙ taken _ _ (i .inside) ∙ taken _ _ (i .all-sound) in
     there
     ∙ pick-both Same (eqb (e .event .which) initializationNumber)
-    (λ _. initialization-unlimited (one row e) (e .area) (belowLimit (e .limits) row)) (λ _ _. refl)
+    (λ _. initialization-unlimited (one (w .sessions) e) (e .area) (belowLimit (e .limits) (w .sessions))) (λ _ _. refl)
     (λ h. f (ap (λ (z : After). z .answer .outcome) there ∙ h))
   where
     Same : Event → Event → Type 0
-    Same x y = (step (one row e) x .answer .outcome ≡ outcomeAtLimit → ⊥) → step (one row e) x ≡ step (one row e) y
+    Same x y = (step (one (w .sessions) e) x .answer .outcome ≡ outcomeAtLimit → ⊥) → step (one (w .sessions) e) x ≡ step (one (w .sessions) e) y
 
 -- ---- limits decide
 -- an application of a set is below its limit: the member that the set shares with those below theirs
@@ -131,19 +145,21 @@ module _ (row : List Session) (l : Limits) where
       within k h (yes l) = omega arith
       within k h (no d) = absurd (true≢false (sym h ∙ has-above applicationCount applications k small (omega arith)))
 
-module _ (row : List Session) (e : RowEvent) (f : FindsCommon row e) where
+module _ (w : TotalledRow) (e : RowEvent) (f : FindsCommon w e) where
   abbrev open-one : Session
-  open-one = afterInitialization (one row e) (e .area) (readArea (e .area))
+  open-one = opening w e
 
   abbrev below : ℕ
-  below = belowLimit (e .limits) row
+  below = belowLimit (e .limits) (w .sessions)
 
-  is-sound : sound (one row e) ≡ true
-  is-sound = sound-at row (e .at) (f .all-sound) (ltb-true (e .at) (length row) (and-first (ltb (e .at) (length row)) (leb (length row) mostSessions) (f .inside)))
+  is-sound : sound (one (w .sessions) e) ≡ true
+  is-sound =
+      sound-at (w .sessions) (e .at) (f .in-row .all-sound)
+      (ltb-true (e .at) (length (w .sessions)) (and-first (ltb (e .at) (length (w .sessions))) (leb (length (w .sessions)) mostSessions) (f .in-row .inside)))
 
   small : negotiated open-one < 2 ^ applicationCount
   unfolding afterInitialization
-  small = common-lt applicationCount (one row e .enabled) (open-one .listed) (sound-means (one row e) is-sound .enabled)
+  small = common-lt applicationCount (one (w .sessions) e .enabled) (open-one .listed) (sound-means (one (w .sessions) e) is-sound .enabled)
 
   together : nothingCommon open-one ≡ false
   unfolding nothingCommon
@@ -154,22 +170,22 @@ module _ (row : List Session) (e : RowEvent) (f : FindsCommon row e) where
   at-limit-is = ap (λ (b : Bool). b && empty (common (negotiated open-one) below)) (f .in-force)
 
   -- only the limit is left to be asked
-  asked : rowStep row e ≡ pick (atLimit open-one below) (answered (one row e) (mismatched open-one) outcomeAtLimit 0) (answered (one row e) open-one outcomeDone 0)
+  asked : rowStep w e ≡ pick (atLimit open-one below) (answered (one (w .sessions) e) (mismatched open-one) outcomeAtLimit 0) (answered (one (w .sessions) e) open-one outcomeDone 0)
   unfolding eventAt eventOf onInitialization settled
   asked =
-      taken _ _ (f .inside) ∙ taken _ _ (f .all-sound)
-      ∙ ap (λ (ev : Event). step (one row e) ev) (taken _ _ (eq-eqb _ _ (f .is-initialization)))
-      ∙ ap (settled (one row e)) (taken _ _ is-sound ∙ taken _ _ (f .ready) ∙ taken _ _ (eq-eqb _ _ (f .readable)))
+      own-inside w e (f .in-row .equal-walk) ∙ taken _ _ (f .in-row .inside) ∙ taken _ _ (f .in-row .all-sound)
+      ∙ ap (λ (ev : Event). step (one (w .sessions) e) ev) (taken _ _ (eq-eqb _ _ (f .is-initialization)))
+      ∙ ap (settled (one (w .sessions) e)) (taken _ _ is-sound ∙ taken _ _ (f .ready) ∙ taken _ _ (eq-eqb _ _ (f .readable)))
       ∙ left _ _ together
 
   open-open : isOpen open-one ≡ true
   unfolding afterInitialization
   open-open = refl
 
-  decided : (b : Bool) → atLimit open-one below ≡ b → LimitDecides row e
+  decided : (b : Bool) → atLimit open-one below ≡ b → LimitDecides w e
   unfolding answered
   decided true h =
-      let none : BelowLimit row e → ⊥ = λ u. one-below row (e .limits) (negotiated open-one) (u .application) (u .is-common) (u .fewer) (sym at-limit-is ∙ h) in
+      let none : BelowLimit w e → ⊥ = λ u. one-below (w .sessions) (e .limits) (negotiated open-one) (u .application) (u .is-common) (u .fewer) (sym at-limit-is ∙ h) in
       record {
         opens = (
           (λ o. absurd (true≢false (sym open-open ∙ ap isOpen (sym o ∙ ap (λ (a : After). a .session) (asked ∙ taken _ _ h)) ∙ mismatched-shut open-one))),
@@ -178,26 +194,17 @@ module _ (row : List Session) (e : RowEvent) (f : FindsCommon row e) where
         turns-away = ((λ _. none), (λ _. ap (λ (a : After). a .answer .outcome) (asked ∙ taken _ _ h)));
       }
   decided false h =
-      let some = some-below row (e .limits) (negotiated open-one) small (sym at-limit-is ∙ h) in
-      let u : BelowLimit row e = record { application = some .0; is-common = some .1 .0; fewer = some .1 .1 } in
+      let some = some-below (w .sessions) (e .limits) (negotiated open-one) small (sym at-limit-is ∙ h) in
+      let u : BelowLimit w e = record { application = some .0; is-common = some .1 .0; fewer = some .1 .1 } in
       record {
         opens = ((λ _. u), (λ _. ap (λ (a : After). a .session) (asked ∙ left _ _ h)));
         turns-away = ((λ o. absurd (omega (arith, sym (ap (λ (a : After). a .answer .outcome) (asked ∙ left _ _ h)) ∙ o))), (λ none. absurd (none u)));
       }
 
 pub limits-decide : LimitsDecide
-limits-decide row e f = decided row e f (atLimit (open-one row e f) (belowLimit (e .limits) row)) refl
+limits-decide w e f = decided w e f (atLimit (open-one w e f) (belowLimit (e .limits) (w .sessions))) refl
 
 -- ---- none is set
--- the session that is not counted leaves a place
-count-lt : (row : List Session) (at n : ℕ) → at < length row → uses (sessionAt row at) n ≡ false → count row n < length row
-unfolding count
-count-lt [] at n l h = absurd (omega arith)
-count-lt (s ∷ row) zero n l h = let most = count-le row n in subst (λ (m : ℕ). m + count row n < suc (length row)) (sym (left _ _ h)) (omega arith)
-count-lt (s ∷ row) (suc at) n l h =
-    let less = count-lt row at n (omega arith) h in
-    by-test (λ (m : ℕ). m + count row n < suc (length row)) (λ _. omega arith) (λ _. omega arith)
-
 pub shut-uses : (s : Session) (n : ℕ) → isOpen s ≡ false → uses s n ≡ false
 unfolding used isIn
 shut-uses s n h = ap (λ (u : ℕ). knownApplication n && has u (n - 1)) (left _ _ (ap (λ (b : Bool). b && inForce s) h)) ∙ ap (λ (b : Bool). knownApplication n && b) (has-none (n - 1)) ∙ and-false (knownApplication n)
@@ -205,8 +212,8 @@ shut-uses s n h = ap (λ (u : ℕ). knownApplication n && has u (n - 1)) (left _
 unset : (n : ℕ) → 1 ≤ n → n ≤ applicationCount → limitOf noLimits n ≡ mostSessions
 unset n least most = ap capped (getD-replicate applicationCount (n - 1) mostSessions 0 (omega arith)) ∙ capped-is mostSessions (lit≤ tt)
 
-module _ (row : List Session) (e : RowEvent) (u : e .limits ≡ noLimits) (h : rowStep row e .answer .outcome ≡ outcomeAtLimit) where
-  found : RowAway row e (rowStep row e)
+module _ (row : List Session) (e : RowEvent) (u : e .limits ≡ noLimits) (h : ownStep row e .answer .outcome ≡ outcomeAtLimit) where
+  found : RowAway row e (ownStep row e)
   found = away-means row e h
 
   is-one : Sound (one row e)
@@ -219,7 +226,7 @@ module _ (row : List Session) (e : RowEvent) (u : e .limits ≡ noLimits) (h : r
   few n =
       let l = ltb-true (e .at) (length row) (and-first (ltb (e .at) (length row)) (leb (length row) mostSessions) (found .inside)) in
       let m = leb-true (length row) mostSessions (and-second (ltb (e .at) (length row)) (leb (length row) mostSessions) (found .inside)) in
-      let c = count-lt row (e .at) n l (shut-uses (one row e) n (away-shut (one row e) is-one (own row e) there)) in
+      let c = how-many-lt (λ s. uses s n) row (e .at) l (shut-uses (one row e) n (away-shut (one row e) is-one (own row e) there)) in
       omega arith
 
   -- so every application is below its limit
@@ -244,4 +251,4 @@ module _ (row : List Session) (e : RowEvent) (u : e .limits ≡ noLimits) (h : r
       true≢false (sym (a .at-limit) ∙ ap (λ (m : ℕ). inForce t && empty (common (negotiated t) m)) told ∙ ap (λ (m : ℕ). inForce t && empty m) whole ∙ a .common)
 
 pub no-limit-binds-unset : NoLimitBindsUnset
-no-limit-binds-unset row e u h = never row e u h
+no-limit-binds-unset w e u h = never (w .sessions) e u (sym (ap (λ (a : After). a .answer .outcome) (own-at-limit w e h)) ∙ h)

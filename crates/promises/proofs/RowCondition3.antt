@@ -1,8 +1,8 @@
--- Condition 3 for a session in a row. The invariant of the two rows: as long, both sound, the one session alike in both and, where it is Ready, the same
--- applications under their limits. It is Ready only at the start, where the rows are alike but for it and it uses nothing in either; later an Initialization
--- is refused in both. By the laws of one event, and induction over the events. Assumes nothing.
-use Prim.Native.Nat.{ℕ, zero, suc, _+_, _<_}
-use mathlib.Core.Path.{_≡_, refl, sym, ap, ap₂, _∙_, subst}
+-- Condition 3 for a session in a row. The invariant of the two rows: as long, both sound, with totals that equal the walk's, the one session alike in both and,
+-- where it is Ready, the same applications under their limits. It is Ready only at the start, where the rows are alike but for it and it uses nothing in either;
+-- later an Initialization is refused in both. By the laws of one event, and induction over the events. Assumes nothing.
+use Prim.Native.Nat.{ℕ, _<_}
+use mathlib.Core.Path.{_≡_, refl, sym, ap, _∙_, subst}
 use mathlib.Core.Bool.{Bool, true, false, _&&_}
 use mathlib.Core.List.{List, [], _∷_}
 use lib.ListN.{length, List·getD-eq-default}
@@ -31,11 +31,13 @@ use Rattle.row.specs.declared.Limits.{Limits}
 use Rattle.row.specs.Limiting.{mostSessions, limitOf}
 use Rattle.row.specs.Events.{initializationNumber, eventOf}
 use Rattle.row.specs.Row.{sessionAt, uses, count, belowLimit, allSound, inRow, eventAt}
+use Rattle.row.proofs.HowMany.{alike-but-one}
 use Rattle.promises.specs.Condition3.{NeverLess}
-use Rattle.promises.specs.Rows.{RowEvent, rowStep, rowThen, rowRun}
+use Rattle.promises.specs.Rows.{TotalledRow, RowEvent, ownStep, rowStep, rowThen, rowRun, EqualWalk}
 use Rattle.promises.specs.RowCondition3.{RowPair, StaysOpenAt, RowCondition3}
 use Rattle.promises.proofs.Condition3.{alike-less, members}
 use Rattle.promises.proofs.Rows.{at-set, others-stay, rows-length, sound-at, then-sound}
+use Rattle.promises.proofs.RowTotals.{own-inside, totals-stay-equal}
 use Rattle.promises.proofs.Limits.{shut-uses}
 
 -- ---- one event of the one session: only a Ready session asks which applications are below their limit
@@ -96,62 +98,57 @@ module _ (r t : List Session) (at : ℕ) (b : Both r t at) where
 open-ready : (s : Session) → isOpen s ≡ true → isReady s ≡ true → ⊥
 open-ready s o r = let one = eqb-true (s .state) 1 o in let none = eqb-true (s .state) 0 r in omega arith
 
+-- and each with totals that equal the walk's
+record BothTotalled (r t : TotalledRow) (at : ℕ) : Type 0 where
+  pub rows : Both (r .sessions) (t .sessions) at
+  pub first-totals : EqualWalk r
+  pub second-totals : EqualWalk t
+
 -- every event: the two rows after it
-both-after : (r t : List Session) (at : ℕ) (e : RowEvent) → Both r t at → isOpen (sessionAt (rowThen r e) at) ≡ true → Both (rowThen r e) (rowThen t e) at
-both-after r t at e b o =
+both-after : (r t : TotalledRow) (at : ℕ) (e : RowEvent) → BothTotalled r t at → isOpen (sessionAt (rowThen r e .sessions) at) ≡ true → BothTotalled (rowThen r e) (rowThen t e) at
+both-after r t at e z o =
+    let b = z .rows in
     record {
-      inside = rw (rows-length r e) (b .inside);
-      same-length = rows-length r e ∙ b .same-length ∙ sym (rows-length t e);
-      first-sound = then-sound r e (b .first-sound);
-      second-sound = then-sound t e (b .second-sound);
-      like = go (ℕ-discrete at (e .at));
-      same-below = λ q. absurd (open-ready (sessionAt (rowThen r e) at) o q);
+      rows = record {
+        inside = rw (rows-length r e) (b .inside);
+        same-length = rows-length r e ∙ b .same-length ∙ sym (rows-length t e);
+        first-sound = then-sound r e (b .first-sound);
+        second-sound = then-sound t e (b .second-sound);
+        like = go (ℕ-discrete at (e .at));
+        same-below = λ q. absurd (open-ready (sessionAt (rowThen r e .sessions) at) o q);
+      };
+      first-totals = totals-stay-equal r e (z .first-totals);
+      second-totals = totals-stay-equal t e (z .second-totals);
     }
   where
-    go : Dec (at ≡ e .at) → Alike (sessionAt (rowThen r e) at) (sessionAt (rowThen t e) at)
+    -- the session of the event is the one that its own event leaves
+    own-at : (w : TotalledRow) → EqualWalk w → at ≡ e .at → at < length (w .sessions) → sessionAt (rowThen w e .sessions) at ≡ ownStep (w .sessions) e .session
+    own-at w q same inside =
+        ap (sessionAt (rowThen w e .sessions)) same ∙ at-set (w .sessions) (e .at) (rowStep w e .session) (rw (sym same) inside)
+        ∙ ap (λ (a : After). a .session) (own-inside w e q)
+
+    go : Dec (at ≡ e .at) → Alike (sessionAt (rowThen r e .sessions) at) (sessionAt (rowThen t e .sessions) at)
     go (yes same) =
-        let inside : e .at < length r = rw (sym same) (b .inside) in
-        let first : sessionAt (rowThen r e) at ≡ rowStep r e .session = ap (sessionAt (rowThen r e)) same ∙ at-set r (e .at) (rowStep r e .session) inside in
-        let second : sessionAt (rowThen t e) at ≡ rowStep t e .session =
-        ap (sessionAt (rowThen t e)) same ∙ at-set t (e .at) (rowStep t e .session) (rw (sym (b .same-length)) inside) in
-        let b′ : Both r t (e .at) = subst (Both r t) same b in
-        subst (λ (z : Session). Alike (sessionAt (rowThen r e) at) z) (sym second) (subst (λ (z : Session). Alike z (rowStep t e .session)) (sym first)
-        (own-event r t (e .at) b′ (e .event) (e .limits) (e .area) (e .room) (sym (ap isOpen first) ∙ o)))
+        let b = z .rows in
+        let first = own-at r (z .first-totals) same (b .inside) in
+        let second = own-at t (z .second-totals) same (rw (sym (b .same-length)) (b .inside)) in
+        let b′ : Both (r .sessions) (t .sessions) (e .at) = subst (Both (r .sessions) (t .sessions)) same b in
+        subst (λ (x : Session). Alike (sessionAt (rowThen r e .sessions) at) x) (sym second) (subst (λ (x : Session). Alike x (ownStep (t .sessions) e .session)) (sym first)
+        (own-event (r .sessions) (t .sessions) (e .at) b′ (e .event) (e .limits) (e .area) (e .room) (sym (ap isOpen first) ∙ o)))
     go (no d) =
-        subst (λ (z : Session). Alike (sessionAt (rowThen r e) at) z) (sym (others-stay t e at d))
-        (subst (λ (z : Session). Alike z (sessionAt t at)) (sym (others-stay r e at d)) (b .like))
+        subst (λ (x : Session). Alike (sessionAt (rowThen r e .sessions) at) x) (sym (others-stay t e at d))
+        (subst (λ (x : Session). Alike x (sessionAt (t .sessions) at)) (sym (others-stay r e at d)) (z .rows .like))
 
 -- ---- over the events
-over : (r t : List Session) (at : ℕ) (e : RowEvent) (es : List RowEvent) → Both r t at → StaysOpenAt at r (e ∷ es)
-    → NeverLess (sessionAt (rowRun r (e ∷ es)) at) (sessionAt (rowRun t (e ∷ es)) at)
+over : (r t : TotalledRow) (at : ℕ) (e : RowEvent) (es : List RowEvent) → BothTotalled r t at → StaysOpenAt at r (e ∷ es)
+    → NeverLess (sessionAt (rowRun r (e ∷ es) .sessions) at) (sessionAt (rowRun t (e ∷ es) .sessions) at)
 over r t at e [] b o =
-    let b′ = both-after r t at e b (o .0) in
-    alike-less (sessionAt (rowThen r e) at) (sessionAt (rowThen t e) at) (b′ .like) (first-is (rowThen r e) (rowThen t e) at b′) (second-is (rowThen r e) (rowThen t e) at b′) (o .0)
+    let b′ = both-after r t at e b (o .0) .rows in
+    alike-less (sessionAt (rowThen r e .sessions) at) (sessionAt (rowThen t e .sessions) at) (b′ .like) (first-is (rowThen r e .sessions) (rowThen t e .sessions) at b′)
+    (second-is (rowThen r e .sessions) (rowThen t e .sessions) at b′) (o .0)
 over r t at e (next ∷ es) b o = over (rowThen r e) (rowThen t e) at next es (both-after r t at e b (o .0)) (o .1)
 
 -- ---- the start
--- rows of the same sessions
-counts-same : (r t : List Session) (n : ℕ) → length r ≡ length t → ((k : ℕ) → sessionAt r k ≡ sessionAt t k) → count r n ≡ count t n
-unfolding count
-counts-same [] [] n len same = refl
-counts-same [] (y ∷ t) n len same = absurd (omega arith)
-counts-same (x ∷ r) [] n len same = absurd (omega arith)
-counts-same (x ∷ r) (y ∷ t) n len same =
-    ap₂ (λ (c d : ℕ). c + d) (ap (λ (s : Session). pick (uses s n) 1 0) (same zero)) (counts-same r t n (omega arith) (λ k. same (suc k)))
-
--- the rows count alike where the one session uses nothing in either
-counts-alike : (r t : List Session) (at n : ℕ) → length r ≡ length t → ((k : ℕ) → (k ≡ at → ⊥) → sessionAt r k ≡ sessionAt t k)
-    → uses (sessionAt r at) n ≡ false → uses (sessionAt t at) n ≡ false → count r n ≡ count t n
-unfolding count
-counts-alike [] [] at n len same a b = refl
-counts-alike [] (y ∷ t) at n len same a b = absurd (omega arith)
-counts-alike (x ∷ r) [] at n len same a b = absurd (omega arith)
-counts-alike (x ∷ r) (y ∷ t) zero n len same a b =
-    ap₂ (λ (c d : ℕ). c + d) (ap (λ (v : Bool). pick v 1 0) (a ∙ sym b)) (counts-same r t n (omega arith) (λ k. same (suc k) (λ z. absurd (omega arith))))
-counts-alike (x ∷ r) (y ∷ t) (suc at) n len same a b =
-    ap₂ (λ (c d : ℕ). c + d) (ap (λ (s : Session). pick (uses s n) 1 0) (same zero (λ z. absurd (omega arith))))
-    (counts-alike r t at n (omega arith) (λ k d. same (suc k) (λ z. d (omega arith))) a b)
-
 -- past the end of a row no session is sound
 is-inside : (r : List Session) (at : ℕ) → sound (sessionAt r at) ≡ true → at < length r
 is-inside r at h = go (decLt at (length r))
@@ -163,12 +160,12 @@ is-inside r at h = go (decLt at (length r))
         let state = sound-means noSession none .state in
         absurd (omega arith)
 
-module _ (r t : List Session) (at : ℕ) (p : RowPair r t at) where
-  begins : Both r t at
+module _ (r t : TotalledRow) (at : ℕ) (p : RowPair r t at) where
+  begins : Both (r .sessions) (t .sessions) at
   unfolding belowLimit
   begins =
-      let s = sessionAt r at in
-      let u = sessionAt t at in
+      let s = sessionAt (r .sessions) at in
+      let u = sessionAt (t .sessions) at in
       let pair = p .pair in
       let first = sound-means s (pair .first-sound) in
       let second = sound-means u (pair .second-sound) in
@@ -177,15 +174,17 @@ module _ (r t : List Session) (at : ℕ) (p : RowPair r t at) where
       let shut : isOpen s ≡ false = ready-shut (s .state) (first .state) (pair .first-ready) in
       let shut′ : isOpen u ≡ false = ready-shut (u .state) (second .state) ready in
       record {
-        inside = is-inside r at (pair .first-sound);
+        inside = is-inside (r .sessions) at (pair .first-sound);
         same-length = p .same-length;
         first-sound = p .first-sound;
         second-sound = p .second-sound;
         like = record { same-else = pair .alike ∙ ap (withOtherEnabled s (u .enabled)) (sym next); more = members (s .enabled) (u .enabled) (first .enabled) (pair .more) };
         same-below = λ _ l.
-            chosen-same applicationCount (λ n. ltb (count r n) (limitOf l n)) (λ n. ltb (count t n) (limitOf l n)) applicationCount
-            (λ n _ _. ap (λ (c : ℕ). ltb c (limitOf l n)) (counts-alike r t at n (p .same-length) (p .others) (shut-uses s n shut) (shut-uses u n shut′)));
+            chosen-same applicationCount (λ n. ltb (count (r .sessions) n) (limitOf l n)) (λ n. ltb (count (t .sessions) n) (limitOf l n)) applicationCount
+            (λ n _ _. ap (λ (c : ℕ). ltb c (limitOf l n))
+            (alike-but-one (λ z. uses z n) (r .sessions) (t .sessions) at (p .same-length) (p .others) (shut-uses s n shut ∙ sym (shut-uses u n shut′))));
       }
 
 pub row-condition-3 : RowCondition3
-row-condition-3 r t first es p o = over r t (first .at) first es (begins r t (first .at) p) o
+row-condition-3 r t first es p o =
+    over r t (first .at) first es (record { rows = begins r t (first .at) p; first-totals = p .first-totals; second-totals = p .second-totals }) o

@@ -16,7 +16,8 @@ use Rattle.session.specs.Events.{Event, Initialization, Capability, LocalChange
 use Rattle.session.specs.Questions.{permission, permittedKinds, whyNot, retryInterval}
 use Rattle.area.specs.Area.{readArea}
 use Rattle.row.specs.Limiting.{noLimits, limited}
-use Rattle.row.specs.Row.{countOf}
+use Rattle.totals.specs.Totals.{kindTotal}
+use Rattle.row.specs.Row.{countOf, recount}
 use Rattle.record.specs.Record.{decoded}
 use Rattle.record.specs.Loaded.{load, storeRefusal, storeOctets}
 use Rattle.tacit.specs.Creation.{CreatedIn}
@@ -41,7 +42,8 @@ use Rattle.tacit.proofs.tacit_load.Reads as loaded
 use Rattle.tacit.proofs.tacit_store.Reads as stored
 use Rattle.tacit.proofs.tacit_no_limits.Reads as no-limits
 use Rattle.tacit.proofs.tacit_set_limit.Reads as set-limit
-use Rattle.promises.specs.Walked.{RowCount}
+use Rattle.tacit.proofs.tacit_kind_total.Reads as kind-total
+use Rattle.promises.specs.Walked.{RowCount, Recount}
 use Rattle.promises.specs.Words.{Permits}
 use Rattle.promises.specs.Records.{Octets, AllNumbered}
 use Rattle.promises.specs.Condition3.{ReadyPair, NeverLess}
@@ -111,6 +113,8 @@ pub record CallsAnswer : Type 0 where
   pub tacit-no-limits : (a r s : _) → no-limits.Post tt a r s → r ≡ noLimits
   pub tacit-set-limit : (a r s : _) → set-limit.Post tt a r s → r ≡ limited (a .0) (a .1 .0) (a .1 .1 .0)
   pub tacit-row-count : (κs : _) (a r s : _) → RowCount κs a r s → r ≡ countOf (a .0 .now) (a .1 .0)
+  pub tacit-kind-total : (a r s : _) → kind-total.Post tt a r s → r ≡ kindTotal (a .0) (a .1 .0)
+  pub tacit-recount : (κs : _) (a r s : _) → Recount κs a r s → r ≡ recount (a .0 .now)
 
 -- ---- the question: of a sound record and a kind that is one, it answers 1 exactly where the session permits the kind
 abbrev pub PermittedIsAsked : Type 0

@@ -40,6 +40,7 @@ use Rattle.wishes.proofs.wanted.Reads as wishes-wanted
 use Rattle.wishes.proofs.sac.Reads as wishes-sac
 use Rattle.session.proofs.Session.new.Reads as session-new
 use Rattle.session.proofs.Session.sound.Reads as session-sound
+use Rattle.session.proofs.Session.permitted.Reads as session-permitted
 use Rattle.session.proofs.Session.permitted_kinds.Reads as session-permitted-kinds
 use Rattle.session.proofs.Session.permission.Reads as session-permission
 use Rattle.session.proofs.Session.why_not.Reads as session-why-not
@@ -64,12 +65,19 @@ use Rattle.record.proofs.decoded.Reads as record-decoded
 use Rattle.record.proofs.carry.Reads as record-carry
 use Rattle.record.proofs.load.Reads as record-load
 use Rattle.record.proofs.store.Reads as record-store
+use Rattle.totals.proofs.Totals.totalled.Reads as totals-totalled
+use Rattle.totals.proofs.Totals.of_kind.Reads as totals-of-kind
+use Rattle.row.proofs.Counted.applications.Reads as row-applications
+use Rattle.row.proofs.Counted.kinds.Reads as row-kinds
+use Rattle.row.proofs.EventNumbers.counted.Reads as row-counted
 use Rattle.row.proofs.Limits.none.Reads as row-none
 use Rattle.row.proofs.Limits.limited.Reads as row-limited
 use Rattle.row.proofs.Tally.count_by.Reads as row-count-by
 use Rattle.row.proofs.event_in.Reads as row-event-in
 use Rattle.row.proofs.outside.Reads as row-outside
 use Rattle.row.proofs.uncounted.Reads as row-uncounted
+use Rattle.row.proofs.Tally.recount_by.Reads as row-recount-by
+use Rattle.row.proofs.untotalled.Reads as row-untotalled
 use Rattle.tacit.proofs.tacit_create.Reads as tacit-create
 use Rattle.tacit.proofs.tacit_read.Reads as tacit-read
 use Rattle.tacit.proofs.tacit_initialization.Reads as tacit-initialization
@@ -90,7 +98,8 @@ use Rattle.tacit.proofs.tacit_load.Reads as tacit-load
 use Rattle.tacit.proofs.tacit_store.Reads as tacit-store
 use Rattle.tacit.proofs.tacit_no_limits.Reads as tacit-no-limits
 use Rattle.tacit.proofs.tacit_set_limit.Reads as tacit-set-limit
-use Rattle.promises.specs.Walked.{TallyOf, RowCount, RowEventCall}
+use Rattle.tacit.proofs.tacit_kind_total.Reads as tacit-kind-total
+use Rattle.promises.specs.Walked.{TallyOf, RowCount, Recount, RowEventCall}
 
 pub record SetsDetermined : Type 0 where
   pub has : Determined (sets-has.Post tt)
@@ -145,6 +154,7 @@ pub record WishesDetermined : Type 0 where
 pub record SessionDetermined : Type 0 where
   pub new : Determined (session-new.Post tt)
   pub sound : Determined (session-sound.Post tt)
+  pub permitted : Determined (session-permitted.Post tt)
   pub permitted-kinds : Determined (session-permitted-kinds.Post tt)
   pub permission : Determined (session-permission.Post tt)
   pub why-not : Determined (session-why-not.Post tt)
@@ -172,13 +182,22 @@ pub record RecordDetermined : Type 0 where
   pub load : (κs : _) → Determined (record-load.Post κs)
   pub store : (κs : _) → Determines (record-store.Post κs) (λ r s. both r (s .1 .0 .now))
 
+pub record TotalsDetermined : Type 0 where
+  pub totalled : Determined (totals-totalled.Post tt)
+  pub of-kind : Determined (totals-of-kind.Post tt)
+
 pub record RowDetermined : Type 0 where
+  pub applications : Determined (row-applications.Post tt)
+  pub kinds : Determined (row-kinds.Post tt)
+  pub counted : Determined (row-counted.Post tt)
   pub no-limits : Determined (row-none.Post tt)
   pub limited : Determined (row-limited.Post tt)
   pub count-by : Determined (row-count-by.Post tt)
-  pub event-in : (κs : _) → Determines (row-event-in.Post κs) (λ r s. both r (s .1 .1 .1 .1 .1 .0 .now))
+  pub event-in : (κs : _) → Determines (row-event-in.Post κs) (λ r s. both r (s .1 .1 .1 .1 .1 .1 .0 .now))
   pub outside : Determined (row-outside.Post tt)
   pub uncounted : Determined (row-uncounted.Post tt)
+  pub recount-by : Determined (row-recount-by.Post tt)
+  pub untotalled : Determined (row-untotalled.Post tt)
   pub tally-of : (κs : _) → Determined (TallyOf κs)
 
 pub record TacitDetermined : Type 0 where
@@ -203,7 +222,9 @@ pub record TacitDetermined : Type 0 where
   pub tacit-no-limits : Determined (tacit-no-limits.Post tt)
   pub tacit-set-limit : Determined (tacit-set-limit.Post tt)
   pub tacit-row-count : (κs : _) → Determined (RowCount κs)
-  pub tacit-row-event : (κs : _) → Determines (RowEventCall κs) (λ r s. both r (both (s .0 .now) (s .1 .1 .1 .1 .1 .0 .now)))
+  pub tacit-kind-total : Determined (tacit-kind-total.Post tt)
+  pub tacit-recount : (κs : _) → Determined (Recount κs)
+  pub tacit-row-event : (κs : _) → Determines (RowEventCall κs) (λ r s. both r (both (s .0 .now) (s .1 .1 .1 .1 .1 .1 .0 .now)))
 
 pub record AllDetermined : Type 0 where
   pub sets : SetsDetermined
@@ -215,5 +236,6 @@ pub record AllDetermined : Type 0 where
   pub wishes : WishesDetermined
   pub session : SessionDetermined
   pub records : RecordDetermined
+  pub totals : TotalsDetermined
   pub row : RowDetermined
   pub tacit : TacitDetermined

@@ -7,12 +7,14 @@ pub mod Walked
 pub mod Wishes
 pub mod Calls
 pub mod Rows
+pub mod RowTotals
 pub mod RowCondition3
 pub mod RowCalls
 pub mod RowRecords
 pub mod Why
 pub mod Examples
 pub mod RowExamples
+pub mod TotalExamples
 pub mod WishExamples
 pub mod Determined
 pub mod Promises

@@ -14,13 +14,15 @@ use Rattle.promises.specs.Written.{ReadAsMeant}
 use Rattle.promises.specs.Records.{RecordsFollow}
 use Rattle.promises.specs.Calls.{CallsAreEvents, RoomsAreEvents, CallsFollow, CallsAnswer, CreationIsSound, PermittedIsAsked, CallsCondition3}
 use Rattle.promises.specs.Rows.{SoundOverRows, OthersStay, RowRefusedIsNothing, CountsFollow, LimitIsMismatch, LimitsDecide, BaseWhereNoLimitBinds, NoLimitBindsUnset}
+use Rattle.promises.specs.RowTotals.{OwnRefusalsFirst, OwnUnlessOutside, TotalsStayEqual, NeverOutside, TotalsFollow, RecountIsWalk, RecountIsKept}
 use Rattle.promises.specs.RowCondition3.{RowCondition3}
-use Rattle.promises.specs.RowCalls.{RowCallsAreEvents, RowCallsFollow, RowCallsCondition3}
+use Rattle.promises.specs.RowCalls.{RowCallsAreEvents, RowCallsFollow, RowCallsTotal, RowCallsCondition3}
 use Rattle.promises.specs.RowRecords.{NarrowOverRows, RowIsRun, RowRecordsFollow}
 use Rattle.promises.specs.Examples.{Examples, WhyItStops, WhyAtThatMoment, FurtherKind}
 use Rattle.promises.specs.Why.{WhyNot}
 use Rattle.promises.specs.Wishes.{WishIsKept, WishReadAsMeant, SacIsWritten, SacReadAsMeant, WantedIsNotDisabled, WishesStay, WishesStaySound, WishesOfBoth}
 use Rattle.promises.specs.RowExamples.{RowExamples, WhyTheOneSession}
+use Rattle.promises.specs.TotalExamples.{TotalExamples}
 use Rattle.promises.specs.WishExamples.{WishExamples}
 use Rattle.promises.specs.Determined.{AllDetermined}
 
@@ -86,9 +88,17 @@ pub record Promises : Type 0 where
   pub limits-decide : LimitsDecide
   pub base-where-no-limit-binds : BaseWhereNoLimitBinds
   pub no-limit-binds-unset : NoLimitBindsUnset
+  pub own-refusals-first : OwnRefusalsFirst
+  pub own-unless-outside : OwnUnlessOutside
+  pub totals-stay-equal : TotalsStayEqual
+  pub never-outside : NeverOutside
+  pub totals-follow : TotalsFollow
+  pub recount-is-walk : RecountIsWalk
+  pub recount-is-kept : RecountIsKept
   pub row-condition-3 : RowCondition3
   pub row-calls-are-events : RowCallsAreEvents
   pub row-calls-follow : RowCallsFollow
+  pub row-calls-total : RowCallsTotal
   pub row-calls-condition-3 : RowCallsCondition3
   pub narrow-over-rows : NarrowOverRows
   pub row-is-run : RowIsRun
@@ -101,3 +111,4 @@ pub record Promises : Type 0 where
   pub wish-examples : WishExamples
   pub row-examples : RowExamples
   pub why-the-one-session : WhyTheOneSession
+  pub total-examples : TotalExamples

@@ -14,7 +14,7 @@ use Rattle.session.specs.Events.{Event, run}
 use Rattle.record.specs.Loaded.{load, storeOctets}
 use Rattle.row.specs.Row.{sessionAt, allSound, inRow, eventIn}
 use Rattle.promises.specs.Records.{Octets, recordRun}
-use Rattle.promises.specs.Rows.{RowEvent, rowThen, rowRun}
+use Rattle.promises.specs.Rows.{TotalledRow, RowEvent, rowThen, rowRun, EqualWalk}
 
 -- numbers of 32 bits in each of the events
 abbrev pub RowNumbered : List RowEvent → Type 0
@@ -27,24 +27,24 @@ AllNarrow row = (k : ℕ) → Narrow (sessionAt row k)
 
 -- they stay so over any run of a row
 abbrev pub NarrowOverRows : Type 0
-NarrowOverRows = (row : List Session) (es : List RowEvent) → AllNarrow row → RowNumbered es → AllNarrow (rowRun row es)
+NarrowOverRows = (w : TotalledRow) (es : List RowEvent) → AllNarrow (w .sessions) → RowNumbered es → AllNarrow (rowRun w es .sessions)
 
 -- the events of one session of the row, each with the applications that were below their limit when it came
-abbrev pub eventsOf : ℕ → List Session → List RowEvent → List Event
-eventsOf at row [] = []
-eventsOf at row (e ∷ es) =
-    let rest : List Event = eventsOf at (rowThen row e) es in
-    pick (eqb (e .at) at) (eventIn row (e .event) (e .limits) (e .area) (length (e .room)) ∷ rest) rest
+abbrev pub eventsOf : ℕ → TotalledRow → List RowEvent → List Event
+eventsOf at w [] = []
+eventsOf at w (e ∷ es) =
+    let rest : List Event = eventsOf at (rowThen w e) es in
+    pick (eqb (e .at) at) (eventIn (w .sessions) (e .event) (e .limits) (e .area) (length (e .room)) ∷ rest) rest
 
--- the session is the one that these lead to by themselves
+-- with totals that equal the walk's, the session is the one that these lead to by themselves
 abbrev pub RowIsRun : Type 0
 RowIsRun =
-    (row : List Session) (es : List RowEvent) (at : ℕ) → allSound row ≡ true → inRow row at ≡ true
-    → sessionAt (rowRun row es) at ≡ run (sessionAt row at) (eventsOf at row es)
+    (w : TotalledRow) (es : List RowEvent) (at : ℕ) → allSound (w .sessions) ≡ true → EqualWalk w → inRow (w .sessions) at ≡ true
+    → sessionAt (rowRun w es .sessions) at ≡ run (sessionAt (w .sessions) at) (eventsOf at w es)
 
 -- loaded from a record, led through the events of a row and stored there: the record that the same events lead to
 abbrev pub RowRecordsFollow : Type 0
 RowRecordsFollow =
-    (row : List Session) (es : List RowEvent) (at : ℕ) (l : List ℕ) → allSound row ≡ true → inRow row at ≡ true → Octets l → RowNumbered es
-    → load l ≡ record { refusal = notRefused; session = sessionAt row at }
-    → storeOctets (sessionAt (rowRun row es) at) l ≡ recordRun l (eventsOf at row es)
+    (w : TotalledRow) (es : List RowEvent) (at : ℕ) (l : List ℕ) → allSound (w .sessions) ≡ true → EqualWalk w → inRow (w .sessions) at ≡ true → Octets l → RowNumbered es
+    → load l ≡ record { refusal = notRefused; session = sessionAt (w .sessions) at }
+    → storeOctets (sessionAt (rowRun w es .sessions) at) l ≡ recordRun l (eventsOf at w es)

@@ -1,4 +1,4 @@
--- The contracts of the three functions that are lent a row, whose proofs walk the code: what the `ensures` of each states, read off it as the check reads
+-- The contracts of the four functions that are lent a row, whose proofs walk the code: what the `ensures` of each states, read off it as the check reads
 -- every other contract. κs are the lifetimes of what is lent, a what is handed in, r what is handed back, s what is left in what was lent. Assumes nothing.
 use mathlib.Core.Path.{refl}
 use base.Logic.{emp}
@@ -9,6 +9,7 @@ use borrow.Fn.World.{World, Pr, ArgsD, ResD}
 use borrow.Fn.Read.{Read, no-know, all-models, r-last}
 use Rattle.row.proofs.tally_of as tally-of
 use Rattle.tacit.proofs.tacit_row_count as row-count
+use Rattle.tacit.proofs.tacit_recount as recount
 use Rattle.tacit.proofs.tacit_row_event as row-event
 
 -- what an assertion tells whoever has it and nothing else
@@ -31,6 +32,13 @@ module _ (κs : Lfts 1) (a : ArgsD row-count.signature κs) (r : ResD row-count.
 
   abbrev pub RowCount : Type 0
   RowCount = Tells row-count-ensures (all-models row-count-ensures (λ w. r-last _) (λ w. refl) (λ w. refl) (λ w. refl))
+
+module _ (κs : Lfts 1) (a : ArgsD recount.signature κs) (r : ResD recount.signature κs) (s : AtExit recount.ended κs) where
+  abbrev recount-ensures : (w : World) → Pr w
+  recount-ensures w = recount.clauses (w .𝓤) (w .H) (w .𝓖 .A) (w .𝓜 .mem) (w .𝓡 .run) κs a .ensures tt r s
+
+  abbrev pub Recount : Type 0
+  Recount = Tells recount-ensures (all-models recount-ensures (λ w. r-last _) (λ w. refl) (λ w. refl) (λ w. refl))
 
 module _ (κs : Lfts 3) (a : ArgsD row-event.signature κs) (r : ResD row-event.signature κs) (s : AtExit row-event.ended κs) where
   abbrev row-event-ensures : (w : World) → Pr w

@@ -183,7 +183,7 @@ module _ (row : List Session) (at : ℕ) (e : EventNumbers) (l : Limits) (area :
 
     -- ---- where there is no such session: nothing changes
     module _ (none : inRow row at ≡ false) where
-      refused-outside : (room : ℕ) → eventWith row at e l t area room ≡ record { session = sessionAt row at; answer = outside t }
+      pub refused-outside : (room : ℕ) → eventWith row at e l t area room ≡ record { session = sessionAt row at; answer = outside t }
       unfolding eventAt
       refused-outside room = ap (totalled t (sessionAt row at)) (left _ _ none) ∙ totalled-still t (sessionAt row at) (refused (sessionAt row at) outsideRow) (union-none 0)
 

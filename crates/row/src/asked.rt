@@ -1,13 +1,16 @@
 // What a pass over a row counts.
 ghost use mathlib.Core.Path.{_≡_};
-ghost use Rattle.row.specs.Counting.{applicationsCounted, kindsCounted, countedFor};
+ghost use mathlib.Core.Bool.{true};
+ghost use Rattle.session.specs.Session.{sound};
+ghost use Rattle.row.specs.Counting.{applicationsCounted, kindsCounted, countedFor, noted};
 use crate::Counted;
 use crate::EventNumbers;
+use session::Session;
 
 impl Counted {
     pub(crate) const NOTHING: u8 = 0;
 
-    pub(crate) const APPLICATIONS: u8 = 1;
+    const APPLICATIONS: u8 = 1;
 
     const KINDS: u8 = 2;
 
@@ -25,6 +28,17 @@ impl Counted {
         ensures { λ r. ⌜ r ≡ kindsCounted ⌝ }
     {
         Counted { what: Self::KINDS }
+    }
+
+    // The set of a session that is counted.
+    pub(crate) fn noted(self, s: Session) -> u16
+        requires { ⌜ sound s ≡ true ⌝ }
+        ensures { λ r. ⌜ r ≡ noted self s ⌝ }
+    {
+        if self.what == Self::APPLICATIONS {
+            return s.used_when_sound();
+        }
+        s.permitted()
     }
 }
 

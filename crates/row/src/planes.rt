@@ -91,17 +91,10 @@ impl Survey {
     {
         let before = self.planes;
         if s.sound() {
-            if counted.what == Counted::APPLICATIONS {
-                let planes = added(before, s.used_when_sound());
-                return Survey {
-                    sound: self.sound,
-                    planes,
-                };
-            }
             if counted.what == Counted::NOTHING {
                 return self;
             }
-            let planes = added(before, s.permitted());
+            let planes = added(before, counted.noted(s));
             return Survey {
                 sound: self.sound,
                 planes,

@@ -16,7 +16,7 @@ use Rattle.sets.specs.Set.{has, common, empty, minus}
 use Rattle.sets.proofs.Bounds.{common-lt}
 use Rattle.sets.proofs.Members.{has-common, has-all, ext}
 use Rattle.sets.proofs.Subsets.{within-self, nothing-left}
-use Rattle.refusals.specs.Refusals.{notRefused, wrongState, notSound}
+use Rattle.refusals.specs.Refusals.{notRefused, wrongState, notSound, totalOutside}
 use Rattle.kinds.specs.Kinds.{applicationCount, allApplications}
 use Rattle.area.specs.Area.{readArea}
 use Rattle.session.specs.declared.Session.{Session}
@@ -142,6 +142,29 @@ unsound-decided s Unknown h = left _ _ h
 pub unsound-refused : (s : Session) (e : Event) → sound s ≡ false → step s e ≡ refused s notSound
 unfolding settled
 unsound-refused s e h = ap (settled s) (unsound-decided s e h)
+
+-- ---- 16 is no refusal of a session's own
+module _ (s : Session) where
+  abbrev OwnRefusal : After → Type 0
+  OwnRefusal after = after .answer .refusal < totalOutside
+
+  settled-refusal : (e : Event) (c : Decision) → Facts s e c → OwnRefusal (settled s c)
+  unfolding settled answered
+  settled-refusal e (Refused n) f = f
+  settled-refusal e Unchanged f = lit< tt
+  settled-refusal e (Done t) f = lit< tt
+  settled-refusal e (AsMismatch t) f = lit< tt
+  settled-refusal e (Negotiate t) f = by-test OwnRefusal (λ _. lit< tt) (λ _. lit< tt)
+  settled-refusal e (Admit t belowLimit) f = by-test OwnRefusal (λ _. lit< tt) (λ _. by-test OwnRefusal (λ _. lit< tt) (λ _. lit< tt))
+  settled-refusal e (Send t written) f = by-test OwnRefusal (λ _. lit< tt) (λ _. lit< tt)
+  settled-refusal e (Tell written) f = lit< tt
+
+  pub step-refusal : (e : Event) → step s e .answer .refusal < totalOutside
+  step-refusal e = go (sound s) refl
+    where
+      go : (b : Bool) → sound s ≡ b → step s e .answer .refusal < totalOutside
+      go true h = settled-refusal e (decision s e) (facts-of s (sound-means s h) e)
+      go false h = subst OwnRefusal (sym (unsound-refused s e h)) (lit< tt)
 
 -- ---- outcome 3: to be admitted, with something common and nothing of it below its limit
 pub record TurnedAway (s : Session) (c : Decision) : Type 0 where

@@ -1,11 +1,12 @@
 -- What an event comes to, once for every event: along the tests of its definition, the facts that hold of what it is decided to come to, and that it follows
 -- when more applications are enabled. Soundness, numbers of 32 bits, limits, what is written and condition 3 are read off here and not
 -- from the tests; a new event proves its view. Of one session it is the view of the session beside itself. Assumes nothing.
-use Prim.Native.Nat.{ℕ, _-_, _≤_}
+use Prim.Native.Nat.{ℕ, _-_, _<_, _≤_}
 use mathlib.Core.Path.{_≡_, refl, sym, ap, _∙_, subst}
 use mathlib.Core.Bool.{Bool, true, false, not, _&&_, _||_, false≢true}
 use mathlib.Core.List.{List}
-use lib.Dec.{eqb, ltb, leb, lit≤}
+use native.Mathlib.Omega.{arith}
+use lib.Dec.{eqb, ltb, leb, lit≤, lit<}
 use borrow.Author.Tests.{eqb-true, leb-true}
 use Rattle.choice.specs.Pick.{pick}
 use Rattle.choice.proofs.Branch.{by-test, pick-both, taken}
@@ -13,9 +14,10 @@ use Rattle.choice.proofs.Tests.{and-first, and-second, and-both, or-first, or-s
 use Rattle.sets.specs.Set.{has, one, empty, Within, holds, switched}
 use Rattle.sets.proofs.Flags as flag
 use Rattle.sets.proofs.Switches.{within-both, within-first, within-second}
-use Rattle.refusals.specs.Refusals.{notRefused, outOfRange, wrongState, noRoom, peerNotDynamic, notSound, unknownApp}
+use Rattle.refusals.specs.Refusals.{notRefused, outOfRange, wrongState, noRoom, peerNotDynamic, notSound, unknownApp, totalOutside}
 use Rattle.kinds.specs.Kinds.{applicationCount, appCount, knownApplication, isIn, knownApp}
 use Rattle.area.specs.Area.{readArea}
+use Rattle.area.proofs.Parts.{read-refusal}
 use Rattle.message.specs.Message.{changeLength, wishLength}
 use Rattle.wishes.specs.Wishes.{soundWishes}
 use Rattle.session.specs.declared.Session.{Session}
@@ -137,9 +139,9 @@ Tells s (Hello number) written = ⊥
 Tells s Closed written = ⊥
 Tells s Unknown written = ⊥
 
--- ---- the facts of each decision
+-- ---- the facts of each decision. 16 is no refusal of a session's own
 abbrev pub Facts : Session → Event → Decision → Type 0
-Facts s e (Refused n) = Unit {0}
+Facts s e (Refused n) = n < totalOutside
 Facts s e Unchanged = Unit {0}
 Facts s e (Done t) = MakesStill s e t
 Facts s e (AsMismatch t) = MakesFound s e t
@@ -159,9 +161,9 @@ module _ (s : Session) (e m : ℕ) (h : Within (s .enabled) e) (ev : Event) wher
   abbrev s′ : Session
   s′ = withOtherEnabled s e m
 
-  refuses : (n : ℕ) → View s s′ ev (Refused n) (Refused n)
+  refuses : (n : ℕ) → n < totalOutside → View s s′ ev (Refused n) (Refused n)
   unfolding settled
-  refuses n = record { facts = tt; follows = λ _. alike s e m h }
+  refuses n l = record { facts = l; follows = λ _. alike s e m h }
 
   stays : View s s′ ev Unchanged Unchanged
   unfolding settled
@@ -206,8 +208,8 @@ module _ (s : Session) (e m : ℕ) (h : Within (s .enabled) e) (r : Sound s) (r�
         );
         follows = admit-follows s (withOtherEnabled s e m) (afterInitialization s a found) e m h b;
       })
-      (λ _. refuses s e m h ev (found .refusal)))
-      (λ _. refuses s e m h ev wrongState))
+      (λ _. refuses s e m h ev (found .refusal) (omega (arith, read-refusal a))))
+      (λ _. refuses s e m h ev wrongState (lit< tt)))
 
   -- ---- Capability message
   capability-view : (a : List ℕ) → View s (withOtherEnabled s e m) (Capability a) (onCapability s a) (onCapability (withOtherEnabled s e m) a)
@@ -232,8 +234,8 @@ module _ (s : Session) (e m : ℕ) (h : Within (s .enabled) e) (r : Sound s) (r�
         };
         follows = negotiate-follows s (withOtherEnabled s e m) (afterCapability s a found) e m h;
       })
-      (λ _. refuses s e m h ev (found .refusal)))
-      (λ _. refuses s e m h ev wrongState))
+      (λ _. refuses s e m h ev (found .refusal) (omega (arith, read-refusal a))))
+      (λ _. refuses s e m h ev wrongState (lit< tt)))
 
   -- ---- Mismatch notification
   mismatch-view : View s (withOtherEnabled s e m) Mismatch (onMismatch s) (onMismatch (withOtherEnabled s e m))
@@ -248,7 +250,7 @@ module _ (s : Session) (e m : ℕ) (h : Within (s .enabled) e) (r : Sound s) (r�
         };
         follows = mismatch-follows s (withOtherEnabled s e m) s e m h (settled (withOtherEnabled s e m) (AsMismatch (withOtherEnabled s e m)));
       })
-      (λ _. refuses s e m h Mismatch wrongState))
+      (λ _. refuses s e m h Mismatch wrongState (lit< tt)))
 
   -- ---- Connection closed
   closed-view : View s (withOtherEnabled s e m) Closed (onClosed s) (onClosed (withOtherEnabled s e m))
@@ -268,12 +270,12 @@ module _ (s : Session) (e m : ℕ) (h : Within (s .enabled) e) (r : Sound s) (r�
         common = sound-common (backToReady s) (back-sound s (basic r));
         still = shut-still s (backToReady s) refl;
       }))
-      (λ _. refuses s e m h Closed wrongState))
+      (λ _. refuses s e m h Closed wrongState (lit< tt)))
 
   -- ---- an event by no number
   unknown-view : View s (withOtherEnabled s e m) Unknown (onUnknown s) (onUnknown (withOtherEnabled s e m))
   unfolding onUnknown
-  unknown-view = both-checked s e m h Unknown r r′ _ _ (refuses s e m h Unknown wrongState)
+  unknown-view = both-checked s e m h Unknown r r′ _ _ (refuses s e m h Unknown wrongState (lit< tt))
 
   -- ---- Our wish
   wish-view : (wishes n : ℕ) (disable : Bool) (room : ℕ)
@@ -293,11 +295,11 @@ module _ (s : Session) (e m : ℕ) (h : Within (s .enabled) e) (r : Sound s) (r�
         facts = record { is-open = o; is-dynamic = d; kept = kept; known = known; not-so = not-so; long = refl; enough = leb-true wishLength room l };
         follows = tell-follows s e m h wishLength;
       })
-      (λ _. refuses s e m h ev noRoom))
-      (λ _. refuses s e m h ev peerNotDynamic))
-      (λ _. refuses s e m h ev wrongState)))
-      (λ _. refuses s e m h ev unknownApp))
-      (λ _. refuses s e m h ev notSound))
+      (λ _. refuses s e m h ev noRoom (lit< tt)))
+      (λ _. refuses s e m h ev peerNotDynamic (lit< tt)))
+      (λ _. refuses s e m h ev wrongState (lit< tt))))
+      (λ _. refuses s e m h ev unknownApp (lit< tt)))
+      (λ _. refuses s e m h ev notSound (lit< tt)))
 
   -- ---- Hello: the Hello is recorded, in a state that is Open exactly where it was
   greets : (number state : ℕ) → Sound (greeted s state number) → (isOpen s ≡ false → eqb state stateOpen ≡ false) → MakesStill s (Hello number) (greeted s state number)
@@ -334,14 +336,14 @@ module _ (s : Session) (e m : ℕ) (h : Within (s .enabled) e) (r : Sound s) (r�
       (λ _. stays s e m h ev))))
 
 -- ---- Local change: what is to be written, in a session and in one with other applications enabled. It is refused in both, sent in both or done in both
-writing-along : (R : Decision → Decision → Type 0) (s : Session) (e m : ℕ) (t t′ : Session) (room : ℕ) → ((n : ℕ) → R (Refused n) (Refused n))
+writing-along : (R : Decision → Decision → Type 0) (s : Session) (e m : ℕ) (t t′ : Session) (room : ℕ) → ((n : ℕ) → n < totalOutside → R (Refused n) (Refused n))
     → ((isOpen s && usesTac s) ≡ true → changeLength ≤ room → R (Send t changeLength) (Send t′ changeLength))
     → ((isOpen s && usesTac s) ≡ false → R (Done t) (Done t′)) → R (writing s t room) (writing (withOtherEnabled s e m) t′ room)
 unfolding writing
 writing-along R s e m t t′ room refused sent set =
     pick-both R (isOpen s && usesTac s)
     (λ o. pick-both R (dynamic s)
-    (λ _. pick-both R (leb changeLength room) (λ q. sent o (leb-true changeLength room q)) (λ _. refused noRoom)) (λ _. refused peerNotDynamic))
+    (λ _. pick-both R (leb changeLength room) (λ q. sent o (leb-true changeLength room q)) (λ _. refused noRoom (lit< tt))) (λ _. refused peerNotDynamic (lit< tt)))
     set
 
 -- ---- what it makes of one session
@@ -368,7 +370,7 @@ module _ (s : Session) (r : Sound s) (n : ℕ) (on : Bool) (room : ℕ) (known :
   writing-facts : Facts s (LocalChange n on room) (writing s (changed s n on) room)
   unfolding heldToReady
   writing-facts =
-      writing-along (λ c _. Facts s (LocalChange n on room) c) s (s .enabled) (s .next) (changed s n on) (changed s n on) room (λ _. tt)
+      writing-along (λ c _. Facts s (LocalChange n on room) c) s (s .enabled) (s .next) (changed s n on) (changed s n on) room (λ _ l. l)
       (λ o q. let is-open = and-first (isOpen s) _ o in (
         record { makes = changes; found = record { told = or-second (isReady s) (isOpen s) is-open; leaves = changed-mismatched s n on } },
         record { is-open = is-open; long = refl; enough = q },
@@ -420,14 +422,14 @@ module _ (s : Session) (e m : ℕ) (h : Within (s .enabled) e) (n room : ℕ) wh
   both-change on w =
       let t = changed s n on in
       let e′ = switched applicationCount e n on in
-      writing-along Pair s e m t (changed other n on) room same-refused (λ _ _. send-follows s other t e′ m w changeLength) (λ _. done-follows s other t e′ m w)
+      writing-along Pair s e m t (changed other n on) room (λ k _. same-refused k) (λ _ _. send-follows s other t e′ m w changeLength) (λ _. done-follows s other t e′ m w)
 
   -- only the second changed, which was and stays Open
   second-changes : Sound s → Within (s .enabled) (switched applicationCount e n false) → Pair Unchanged (writing other (changed other n false) room)
   unfolding settled answered heldToReady nothingCommon
   second-changes r w k =
       let t′ = changed other n false in
-      writing-along (λ c _. Like (settled other c)) other e m t′ t′ room (λ _. alike s e m h)
+      writing-along (λ c _. Like (settled other c)) other e m t′ t′ room (λ _ _. alike s e m h)
       (λ _ _. by-test Like (λ x. never x (common-more s (switched applicationCount e n false) m w (sound-common s r))) (λ _. stayed _)) (λ _. stayed m)
     where
       Like : After → Type 0
@@ -441,7 +443,7 @@ module _ (s : Session) (e m : ℕ) (h : Within (s .enabled) e) (n room : ℕ) wh
   unfolding settled answered heldToReady
   first-changes w =
       let t = changed s n true in
-      writing-along (λ c _. Like (settled s c)) s (s .enabled) (s .next) t t room (λ _ _. alike s e m h)
+      writing-along (λ c _. Like (settled s c)) s (s .enabled) (s .next) t t room (λ _ _ _. alike s e m h)
       (λ _ _. by-test Like (λ _ k. never k (mismatched-shut t)) (λ _ k. stayed _ k)) (λ _ k. stayed (s .next) k)
     where
       Like : After → Type 0
@@ -482,7 +484,7 @@ module _ (s : Session) (e m : ℕ) (h : Within (s .enabled) e) (r : Sound s) (r�
   local-change-view on =
       let ev = LocalChange n on room in
       both-checked s e m h ev r r′ _ _
-      (pick-both (View s (withOtherEnabled s e m) ev) (knownApplication n) (λ k. change-view k on _ _ refl refl) (λ _. refuses s e m h ev outOfRange))
+      (pick-both (View s (withOtherEnabled s e m) ev) (knownApplication n) (λ k. change-view k on _ _ refl refl) (λ _. refuses s e m h ev outOfRange (lit< tt)))
 
 -- ---- every event
 module _ (s : Session) (e m : ℕ) (h : Within (s .enabled) e) (r : Sound s) (r′ : Sound (withOtherEnabled s e m)) where

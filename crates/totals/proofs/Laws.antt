@@ -115,7 +115,7 @@ module _ (t : Totals) (lost gained : ℕ) (none : union lost gained ≡ 0) where
   unfolding totalsAfter
   totals-stay = ap (λ (l : List ℕ). record { each = l }) (each-stays (t .each) lost gained neither kindCount)
 
-  stay-inside : anyOutside t lost gained ≡ false
+  pub stay-inside : anyOutside t lost gained ≡ false
   unfolding anyOutside
   stay-inside = none-outside (t .each) lost gained neither kindCount
 

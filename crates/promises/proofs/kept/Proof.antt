@@ -15,10 +15,11 @@ use Rattle.promises.proofs.Calls.{calls-are-events, rooms-are-events, c
 use Rattle.promises.proofs.Creation.{creation-is-sound}
 use Rattle.promises.proofs.Rows.{sound-over-rows, others-stay, row-refused-is-nothing, counts-follow}
 use Rattle.promises.proofs.Limits.{limit-is-mismatch, limits-decide, base-where-no-limit-binds, no-limit-binds-unset}
+use Rattle.promises.proofs.RowTotals.{own-refusals-first, own-unless-outside, totals-stay-equal, never-outside, totals-follow, recount-is-walk, recount-is-kept}
 use Rattle.promises.proofs.RowCondition3.{row-condition-3}
-use Rattle.promises.proofs.RowCalls.{row-calls-are-events, row-calls-follow, row-calls-condition-3}
+use Rattle.promises.proofs.RowCalls.{row-calls-are-events, row-calls-follow, row-calls-total, row-calls-condition-3}
 use Rattle.promises.proofs.RowRecords.{narrow-over-rows, row-is-run, row-records-follow}
-use Rattle.promises.proofs.Examples.{examples, why-it-stops, why-at-that-moment, further-kind, row-examples, why-the-one-session, wish-examples}
+use Rattle.promises.proofs.Examples.{examples, why-it-stops, why-at-that-moment, further-kind, row-examples, why-the-one-session, total-examples, wish-examples}
 use Rattle.promises.proofs.Determined.{all-determined}
 use Rattle.promises.proofs.Why.{why-not}
 use Rattle.promises.proofs.Wishes.{wish-is-kept, wishes-stay, wishes-stay-sound, wishes-of-both}
@@ -82,9 +83,17 @@ returns c =
       limits-decide = limits-decide;
       base-where-no-limit-binds = base-where-no-limit-binds;
       no-limit-binds-unset = no-limit-binds-unset;
+      own-refusals-first = own-refusals-first;
+      own-unless-outside = own-unless-outside;
+      totals-stay-equal = totals-stay-equal;
+      never-outside = never-outside;
+      totals-follow = totals-follow;
+      recount-is-walk = recount-is-walk;
+      recount-is-kept = recount-is-kept;
       row-condition-3 = row-condition-3;
       row-calls-are-events = row-calls-are-events;
       row-calls-follow = row-calls-follow;
+      row-calls-total = row-calls-total;
       row-calls-condition-3 = row-calls-condition-3;
       narrow-over-rows = narrow-over-rows;
       row-is-run = row-is-run;
@@ -97,6 +106,7 @@ returns c =
       wish-examples = wish-examples;
       row-examples = row-examples;
       why-the-one-session = why-the-one-session;
+      total-examples = total-examples;
     }
 
 pub kept-spec : {M : Type 1} → statement M
