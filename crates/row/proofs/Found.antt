@@ -27,7 +27,7 @@ use Rattle.row.specs.declared.Counted.{Counted}
 use Rattle.row.specs.declared.Tally.{Tally}
 use Rattle.row.specs.Events.{initializationNumber, eventOf, messageIn}
 use Rattle.row.specs.Row.{sessionAt, allSound, isRow, inRow, eventWith, roomAfter, notCounted, countOf, notTotalled, recount}
-use Rattle.row.specs.Counting.{applicationsCounted, kindsCounted, countedFor, counting, noted, emptyTally, tallied, isBelow, belowLimitBy, decidedBy, totalledBy, roomBy, countBy, leadingCounts, recountBy}
+use Rattle.row.specs.Counting.{applicationsCounted, kindsCounted, countedFor, noted, emptyTally, tallied, isBelow, belowLimitBy, decidedBy, totalledBy, roomBy, countBy, leadingCounts, recountBy}
 use Rattle.row.specs.Survey.{leading, surveyed}
 use Rattle.row.proofs.Tallied.{tallied-sound, event-in-row, room-in-row, count-in-row, recount-in-row}
 
@@ -55,17 +55,17 @@ sound-found row at counting of inside = sound-at row at (ltb-true at (length row
 -- ---- by what the pass found
 module _ (row : List Session) (at : ℕ) (e : EventNumbers) (l : Limits) (area : List ℕ) where
   abbrev pub Found : Tally
-  Found = surveyed (counting (countedFor e)) (noted (countedFor e)) row
+  Found = surveyed (countedFor e .counting) (noted (countedFor e)) row
 
   abbrev Whole : Tally
   Whole = tallied (noted applicationsCounted) emptyTally row
 
   -- only an Initialization asks for a count
   event-same : (room : ℕ) → allSound row ≡ true → eventOf e (belowLimitBy Found l) area room ≡ eventOf e (belowLimitBy Whole l) area room
-  unfolding eventOf belowLimitBy counting countedFor
+  unfolding eventOf belowLimitBy countedFor
   event-same room all =
       pick-both _≡_ (eqb (e .which) initializationNumber)
-      (λ is. ap (λ (cs : List ℕ). Initialization area (chosen applicationCount (isBelow cs (l .each)) applicationCount)) (ap (λ (c : Counted). surveyed (counting c) (noted c) row .counts) (taken _ _ is) ∙ surveyed-all (noted applicationsCounted) row all))
+      (λ is. ap (λ (cs : List ℕ). Initialization area (chosen applicationCount (isBelow cs (l .each)) applicationCount)) (ap (λ (c : Counted). surveyed (c .counting) (noted c) row .counts) (taken _ _ is) ∙ surveyed-all (noted applicationsCounted) row all))
       (λ _. refl)
 
   decided-same : (room : ℕ) (s : Session) → decidedBy s Found e l area room ≡ decidedBy s Whole e l area room
@@ -87,13 +87,13 @@ module _ {A : Type 0} (of : Session → ℕ) (row : List Session) (asked : List 
   unfolding surveyed
   same-asked = rw (tallied-sound of emptyTally row) (pick-both _≡_ (allSound row) (λ all. ap asked (surveyed-all of row all)) (λ _. refl))
 
-pub count-found : (row : List Session) (n : ℕ) → isRow row ≡ true → countBy (surveyed (counting applicationsCounted) (noted applicationsCounted) row) n ≡ countOf row n
-unfolding countBy counting
+pub count-found : (row : List Session) (n : ℕ) → isRow row ≡ true → countBy (surveyed (applicationsCounted .counting) (noted applicationsCounted) row) n ≡ countOf row n
+unfolding countBy
 count-found row n there =
     same-asked (noted applicationsCounted) row (λ cs. pick (knownApplication n) (record { refusal = notRefused; count = getD cs (n - 1) 0 }) (notCounted outOfRange)) (notCounted notSound)
     ∙ count-in-row row n there
 
-pub recount-found : (row : List Session) → isRow row ≡ true → recountBy (surveyed (counting kindsCounted) (noted kindsCounted) row) ≡ recount row
-unfolding recountBy counting
+pub recount-found : (row : List Session) → isRow row ≡ true → recountBy (surveyed (kindsCounted .counting) (noted kindsCounted) row) ≡ recount row
+unfolding recountBy
 recount-found row there =
     same-asked (noted kindsCounted) row (λ cs. record { refusal = notRefused; totals = record { each = leadingCounts cs kindCount } }) (notTotalled notSound) ∙ recount-in-row row there

@@ -139,12 +139,12 @@ times-count : (row : List Session) (n : ℕ) → 1 ≤ n → n ≤ applicationCo
 unfolding noted isIn
 times-count row n least most =
     same-question _ (λ s. uses s n)
-    (λ s. ap (λ (u : ℕ). has u (n - 1)) (taken _ _ refl) ∙ sym (ap (λ (b : Bool). b && has (used s) (n - 1)) (is-numbered applicationCount n least most))) row
+    (λ s. ap (λ (u : ℕ). has u (n - 1)) (left _ _ refl) ∙ sym (ap (λ (b : Bool). b && has (used s) (n - 1)) (is-numbered applicationCount n least most))) row
 
 -- kinds
 times-walk : (row : List Session) (k : ℕ) → times (noted kindsCounted) row k ≡ walk row k
 unfolding noted
-times-walk row k = same-question _ (λ s. has (permitted s) k) (λ s. ap (λ (u : ℕ). has u k) (left _ _ refl)) row
+times-walk row k = same-question _ (λ s. has (permitted s) k) (λ s. ap (λ (u : ℕ). has u k) (taken _ _ refl)) row
 
 -- how many use the application n, to mostSessions
 row-count : (row : List Session) (n : ℕ) → 1 ≤ n → n ≤ applicationCount → getD (tallied (noted applicationsCounted) emptyTally row .counts) (n - 1) 0 ≡ capped (count row n)

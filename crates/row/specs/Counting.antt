@@ -1,7 +1,7 @@
 -- What one pass over a row finds: whether all are sound, and how many sessions have each member of the set that is theirs, applications or kinds; and what is
 -- done with it by value. proofs/Tallied.antt says that it is what specs/Row.antt has. Assumes nothing.
 use Prim.Native.Nat.{ℕ, zero, suc, _+_, _-_}
-use mathlib.Core.Bool.{Bool, true, not, _&&_}
+use mathlib.Core.Bool.{Bool, true, false, _&&_}
 use mathlib.Core.List.{List, [], _∷_}
 use lib.ListN.{length, getD, set, replicate}
 use lib.Dec.{eqb, ltb}
@@ -31,24 +31,21 @@ use Rattle.row.specs.Row.{howMany, notCounted, notTotalled}
 
 -- ---- what a pass counts: nothing, the applications that sessions use, or the kinds that they permit
 abbrev pub nothingCounted : Counted
-nothingCounted = record { what = 0 }
+nothingCounted = record { counting = false; kinds = false }
 
 abbrev pub applicationsCounted : Counted
-applicationsCounted = record { what = 1 }
+applicationsCounted = record { counting = true; kinds = false }
 
 abbrev pub kindsCounted : Counted
-kindsCounted = record { what = 2 }
+kindsCounted = record { counting = true; kinds = true }
 
 -- only an Initialization asks for counts
 unfoldable pub countedFor : EventNumbers → Counted
 countedFor e = pick (eqb (e .which) initializationNumber) applicationsCounted nothingCounted
 
-unfoldable pub counting : Counted → Bool
-counting c = not (eqb (c .what) (nothingCounted .what))
-
 -- the set of a session that is counted
 unfoldable pub noted : Counted → Session → ℕ
-noted c s = pick (eqb (c .what) (applicationsCounted .what)) (used s) (permitted s)
+noted c s = pick (c .kinds) (permitted s) (used s)
 
 -- how many sessions have k in the set that is theirs
 abbrev pub times : (Session → ℕ) → List Session → ℕ → ℕ

@@ -8,18 +8,13 @@ use crate::EventNumbers;
 use session::Session;
 
 impl Counted {
-    pub(crate) const NOTHING: u8 = 0;
-
-    const APPLICATIONS: u8 = 1;
-
-    const KINDS: u8 = 2;
-
     // The applications that sessions use.
     pub fn applications() -> Counted
         ensures { λ r. ⌜ r ≡ applicationsCounted ⌝ }
     {
         Counted {
-            what: Self::APPLICATIONS,
+            counting: true,
+            kinds: false,
         }
     }
 
@@ -27,7 +22,10 @@ impl Counted {
     pub fn kinds() -> Counted
         ensures { λ r. ⌜ r ≡ kindsCounted ⌝ }
     {
-        Counted { what: Self::KINDS }
+        Counted {
+            counting: true,
+            kinds: true,
+        }
     }
 
     // The set of a session that is counted.
@@ -35,10 +33,10 @@ impl Counted {
         requires { ⌜ sound s ≡ true ⌝ }
         ensures { λ r. ⌜ r ≡ noted self s ⌝ }
     {
-        if self.what == Self::APPLICATIONS {
-            return s.used_when_sound();
+        if self.kinds {
+            return s.permitted();
         }
-        s.permitted()
+        s.used_when_sound()
     }
 }
 
@@ -51,7 +49,8 @@ impl EventNumbers {
             return Counted::applications();
         }
         Counted {
-            what: Counted::NOTHING,
+            counting: false,
+            kinds: false,
         }
     }
 }

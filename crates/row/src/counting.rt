@@ -1,6 +1,6 @@
 // What the pass over a row found, and what is asked of it.
 ghost use mathlib.Core.Path.{_≡_};
-ghost use Rattle.row.specs.Counting.{counting, emptyTally, belowLimitBy, countBy, leadingCounts, recountBy};
+ghost use Rattle.row.specs.Counting.{emptyTally, belowLimitBy, countBy, leadingCounts, recountBy};
 ghost use Rattle.row.specs.Row.{notTotalled};
 ghost use Rattle.kinds.specs.Kinds.{kindCount};
 ghost use Rattle.row.specs.Survey.{tallyBy};
@@ -39,16 +39,16 @@ impl Tally {
 
     // What a survey comes to: counts only where it counted.
     pub(crate) fn tally(survey: Survey, counted: Counted) -> Tally
-        ensures { λ r. ⌜ r ≡ tallyBy (counting counted) survey ⌝ }
+        ensures { λ r. ⌜ r ≡ tallyBy (counted .counting) survey ⌝ }
     {
         let sound = survey.sound;
-        if counted.what == Counted::NOTHING {
-            let none = Tally::empty();
-            let counts = none.counts;
+        if counted.counting {
+            let planes = survey.planes;
+            let counts = crate::planes::weighed_each(planes);
             return Tally { sound, counts };
         }
-        let planes = survey.planes;
-        let counts = crate::planes::weighed_each(planes);
+        let none = Tally::empty();
+        let counts = none.counts;
         Tally { sound, counts }
     }
 

@@ -7,7 +7,7 @@ ghost use lib.ListN.{length};
 ghost use Rattle.refusals.specs.Refusals.{outsideRow};
 ghost use Rattle.session.specs.Session.{sound};
 ghost use Rattle.row.specs.Row.{outside, notCounted, notTotalled};
-ghost use Rattle.row.specs.Counting.{counting, noted, totalledBy, roomBy};
+ghost use Rattle.row.specs.Counting.{noted, totalledBy, roomBy};
 ghost use Rattle.row.specs.Limiting.{mostSessions};
 ghost use Rattle.row.specs.Survey.{surveyed};
 use crate::planes::PLANES;
@@ -67,7 +67,8 @@ pub struct EventNumbers {
 
 // What a pass over a row counts: nothing, the applications that sessions use, or the kinds that they permit.
 pub struct Counted {
-    pub(crate) what: u8,
+    pub(crate) counting: bool,
+    pub(crate) kinds: bool,
 }
 
 // What one pass over a row finds: whether all are sound, and how many use each application, or permit each kind.
@@ -130,7 +131,7 @@ pub fn untotalled() -> RowTotals
 // The pass over the row, which is the only loop over one. It ends at the first session that is not sound.
 pub fn tally_of(row: &[Session], counted: Counted) -> Tally
     requires { ⌜ length (now row) ≤ mostSessions ⌝ }
-    ensures { λ r. ⌜ r ≡ surveyed (counting counted) (noted counted) (now (row .entry)) ⌝ }
+    ensures { λ r. ⌜ r ≡ surveyed (counted .counting) (noted counted) (now (row .entry)) ⌝ }
 {
     let mut survey = Survey::empty();
     let mut k = 0;

@@ -3,7 +3,7 @@
 ghost use mathlib.Core.Path.{_≡_};
 ghost use Prim.Native.Nat.{_<_};
 ghost use Rattle.kinds.specs.Kinds.{applicationCount};
-ghost use Rattle.row.specs.Counting.{counting, noted};
+ghost use Rattle.row.specs.Counting.{noted};
 ghost use Rattle.row.specs.Survey.{unlike, added, digit, weighed, weighedEach, emptySurvey, surveyedWith};
 use crate::APPLICATIONS;
 use crate::Counted;
@@ -87,18 +87,18 @@ impl Survey {
 
     // With one more session.
     pub(crate) fn with(self, s: Session, counted: Counted) -> Survey
-        ensures { λ r. ⌜ r ≡ surveyedWith (counting counted) (noted counted) self s ⌝ }
+        ensures { λ r. ⌜ r ≡ surveyedWith (counted .counting) (noted counted) self s ⌝ }
     {
         let before = self.planes;
         if s.sound() {
-            if counted.what == Counted::NOTHING {
-                return self;
+            if counted.counting {
+                let planes = added(before, counted.noted(s));
+                return Survey {
+                    sound: self.sound,
+                    planes,
+                };
             }
-            let planes = added(before, counted.noted(s));
-            return Survey {
-                sound: self.sound,
-                planes,
-            };
+            return self;
         }
         Survey {
             sound: false,

@@ -28,7 +28,7 @@ use Rattle.session.specs.declared.Session.{Session}
 use Rattle.row.specs.declared.Counted.{Counted}
 use Rattle.row.specs.declared.Tally.{Tally}
 use Rattle.row.specs.Limiting.{mostSessions}
-use Rattle.row.specs.Counting.{counting, noted}
+use Rattle.row.specs.Counting.{noted}
 use Rattle.row.specs.Survey.{surveyed}
 use Rattle.row.proofs.Walk.{Lent, counted-data, tally-data, low, Good, makes, answered}
 use Rattle.row.proofs.tally_of as pass
@@ -44,9 +44,9 @@ module _ {M : Type 1} (𝓤 : URA M) (H : Heap 𝓤) (A : Atoms 𝓤) (mem : Mem
 module _ {M : Type 1} {𝓤 : URA M} {H : Heap 𝓤} {A : Atoms 𝓤} {K : Type 0} {W : Given 𝓤 H A} {Γ : List (Item 𝓤)} where
   pub passes : K → (mem : Memory → SProp 𝓤) (run : Routine → Fun 𝓤) (κ : Lft) (q : Share) (x : RefT (List Session)) (co : Counted) {C : Calls 𝓤 H} {Λ : Loops 𝓤 H} {E : Env 𝓤 H} {xs : List Operand} {d : Place} {rest : Body} {p : Post 𝓤 H}
       → length (x .now) ≤ mostSessions → Good counted-data co → FmC 𝓤 H (W .laws) C → Triple 𝓤 (C #pass) (Passing 𝓤 H A mem run) → Opds K W (raw (Passing 𝓤 H A mem run .pre (to-pass 𝓤 H A mem run κ q x co)) ∷ Γ) E xs (sliceVal (x .ptr) (length (x .now)) ∷ low counted-data co ∷ [])
-      → ((t : Tally) → t ≡ surveyed (counting co) (noted co) (x .now) → Good tally-data t → Seq K W (‵ (flft κ q) ∷ Γ) (lands C Λ E d (low tally-data t) rest p)) → Seq K W (‵ (flft κ q) ∷ ‵ (Lent κ x) ∷ Γ) (runs C Λ E (seq (call #pass xs d) rest) p)
+      → ((t : Tally) → t ≡ surveyed (co .counting) (noted co) (x .now) → Good tally-data t → Seq K W (‵ (flft κ q) ∷ Γ) (lands C Λ E d (low tally-data t) rest p)) → Seq K W (‵ (flft κ q) ∷ ‵ (Lent κ x) ∷ Γ) (runs C Λ E (seq (call #pass xs d) rest) p)
   passes t mem run κ q x co few gco fm known os k =
       use2 W (raw (Passing 𝓤 H A mem run .pre (to-pass 𝓤 H A mem run κ q x co)))
       (qed W (‵ (flft κ q) ∷ ‵ (Lent κ x) ∷ []) ∵ says ! few $ nothing ! $ makes ! counted-data co gco $ fjoin ! $ move ! (2 ∷ 0 ∷ []) $ fjoin ! $ nothing ! $ move ! (2 ∷ 0 ∷ []) $ join ! $ join ! $ done !) $
       calls-at t fm (Passing 𝓤 H A mem run) known (to-pass 𝓤 H A mem run κ q x co) os (λ v.
-      answered t tally-data (‵ (flft κ q) ⊛ ‵ ftrue) (lasts pass.ended (κ, tt) (x, (co, tt))) (λ r _. r ≡ surveyed (counting co) (noted co) (x .now)) (id⊢ 𝓤 _) (λ r ws said good. split t $ move t (1 ∷ 2 ∷ []) $ drop t $ drop t $ k r said good))
+      answered t tally-data (‵ (flft κ q) ⊛ ‵ ftrue) (lasts pass.ended (κ, tt) (x, (co, tt))) (λ r _. r ≡ surveyed (co .counting) (noted co) (x .now)) (id⊢ 𝓤 _) (λ r ws said good. split t $ move t (1 ∷ 2 ∷ []) $ drop t $ drop t $ k r said good))

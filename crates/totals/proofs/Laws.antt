@@ -8,12 +8,13 @@ use lib.ListN.{length, getD, set}
 use lib.Seq.{set-getD}
 use lib.Dec.{eqb, ltb}
 use native.Mathlib.Decide.{decLt}
+use native.Mathlib.Nat.{le-refl}
 use native.Mathlib.Numerals.{add-one}
 use native.Mathlib.Omega.{arith}
 use borrow.Author.Tests.{le-ltb, ltb-false, ne-eqb, eqb-false}
 use Rattle.choice.specs.Pick.{pick}
-use Rattle.choice.proofs.Branch.{left, by-test}
-use Rattle.choice.proofs.Tests.{or-neither}
+use Rattle.choice.proofs.Branch.{taken, left, by-test}
+use Rattle.choice.proofs.Tests.{or-first, or-second, or-neither}
 use Rattle.sets.specs.Set.{has, union}
 use Rattle.sets.proofs.Members.{has-union, has-none}
 use Rattle.refusals.specs.Refusals.{totalOutside}
@@ -22,9 +23,10 @@ use Rattle.session.specs.declared.Session.{Session}
 use Rattle.session.specs.declared.After.{After}
 use Rattle.session.specs.Decisions.{refused}
 use Rattle.totals.specs.declared.Totals.{Totals}
+use Rattle.totals.specs.declared.Moved.{Moved}
 use Rattle.totals.specs.declared.Totalled.{Totalled}
-use Rattle.totals.specs.Totals.{totalOf, highestTotal, once, totalAfter, goesOutside, movedEach, oneOutside, totalsAfter, anyOutside, totalled}
-use Rattle.totals.proofs.Filled.{filled-length, filled-at}
+use Rattle.totals.specs.Totals.{totalOf, highestTotal, once, totalAfter, goesOutside, movedEach, oneOutside, totalsAfter, anyOutside, movedTotals, totalled}
+use Rattle.totals.proofs.Filled.{filled-length, filled-at, filled-past}
 
 -- ---- one total that does not go outside
 -- there is one to lose
@@ -55,57 +57,74 @@ stays-inside n lost gained f g =
     (and-never lost (λ is. let l = f is in ap₂ _||_ (ne-eqb n 0 (λ e. absurd (omega arith))) (le-ltb highestTotal (n - 1) (omega arith))))
     (and-never gained (λ is. le-ltb highestTotal (n + 1) (g is)))
 
--- ---- each of them
-module _ (each : List ℕ) (lost gained : ℕ) where
-  moved-length : (m : ℕ) → length (movedEach each lost gained m) ≡ length each
-  unfolding movedEach
-  moved-length = filled-length (λ k. totalAfter (getD each k 0) (has lost k) (has gained k)) (movedEach each lost gained) (λ m. refl)
-
-  moved-at : (m k : ℕ) → k < m → k < length each → getD (movedEach each lost gained m) k 0 ≡ totalAfter (getD each k 0) (has lost k) (has gained k)
-  unfolding movedEach
-  moved-at = filled-at (λ k. totalAfter (getD each k 0) (has lost k) (has gained k)) (movedEach each lost gained) (λ m. refl)
-
-  -- one more of them
-  pub moved-more : (k : ℕ) → set (movedEach each lost gained k) k (totalAfter (getD each k 0) (has lost k) (has gained k)) ≡ movedEach each lost gained (k + 1)
-  unfolding movedEach
-  moved-more k = rw add-one refl
-
-  pub outside-more : (k : ℕ) → (oneOutside each lost gained k || goesOutside (getD each k 0) (has lost k) (has gained k)) ≡ oneOutside each lost gained (k + 1)
-  unfolding oneOutside
-  outside-more k = rw add-one refl
-
-  -- where none goes outside each stays inside, and the other way round
-  inside-each : (m k : ℕ) → k < m → oneOutside each lost gained m ≡ false → goesOutside (getD each k 0) (has lost k) (has gained k) ≡ false
-  unfolding oneOutside
-  inside-each zero k l h = absurd (omega arith)
-  inside-each (suc m) k l h = go (decLt k m) (λ b. inside-each m k b (or-neither _ _ h .0))
-    where
-      go : Dec (k < m) → (k < m → goesOutside (getD each k 0) (has lost k) (has gained k) ≡ false) → goesOutside (getD each k 0) (has lost k) (has gained k) ≡ false
-      go (yes b) before = before b
-      go (no d) before = let e : m ≡ k = omega arith in rw e at (or-neither (oneOutside each lost gained m) _ h .1)
-
-  each-inside : (m : ℕ) → ((k : ℕ) → k < m → goesOutside (getD each k 0) (has lost k) (has gained k) ≡ false) → oneOutside each lost gained m ≡ false
-  unfolding oneOutside
-  each-inside zero f = refl
-  each-inside (suc m) f = ap₂ _||_ (each-inside m (λ k l. f k (omega arith))) (f m (omega arith))
-
--- ---- nothing lost and nothing gained
+-- ---- one total where its kind is neither lost nor gained
 still : (x y : Bool) (n : ℕ) → (x || y) ≡ false → totalAfter n x y ≡ n
 unfolding totalAfter pick
 still true y n h = absurd (true≢false h)
 still false true n h = absurd (true≢false h)
 still false false n h = omega arith
 
-module _ (each : List ℕ) (lost gained : ℕ) (neither : (k : ℕ) → (has lost k || has gained k) ≡ false) where
-  each-stays : (m : ℕ) → movedEach each lost gained m ≡ each
-  unfolding movedEach
-  each-stays zero = refl
-  each-stays (suc m) = ap₂ (λ (l : List ℕ) (n : ℕ). set l m n) (each-stays m) (still (has lost m) (has gained m) (getD each m 0) (neither m)) ∙ set-getD each m 0
+still-inside : (x y : Bool) (n : ℕ) → (x || y) ≡ false → goesOutside n x y ≡ false
+still-inside x y n h = let none = or-neither x y h in stays-inside n x y (λ is. absurd (true≢false (sym is ∙ none .0))) (λ is. absurd (true≢false (sym is ∙ none .1)))
 
-  none-outside : (m : ℕ) → oneOutside each lost gained m ≡ false
-  none-outside m =
-      each-inside each lost gained m
-      (λ k _. let no = or-neither (has lost k) (has gained k) (neither k) in stays-inside (getD each k 0) (has lost k) (has gained k) (λ is. absurd (true≢false (sym is ∙ no .0))) (λ is. absurd (true≢false (sym is ∙ no .1))))
+-- ---- each of them
+module _ (each : List ℕ) (lost gained : ℕ) where
+  abbrev totalThen : ℕ → ℕ
+  totalThen k = totalAfter (getD each k 0) (has lost k) (has gained k)
+
+  abbrev Leaves : ℕ → Bool
+  Leaves k = goesOutside (getD each k 0) (has lost k) (has gained k)
+
+  moved-length : (m : ℕ) → length (movedEach each lost gained m) ≡ length each
+  unfolding movedEach
+  moved-length = filled-length totalThen (movedEach each lost gained) (λ m. refl)
+
+  moved-at : (m k : ℕ) → k < m → k < length each → getD (movedEach each lost gained m) k 0 ≡ totalThen k
+  unfolding movedEach
+  moved-at = filled-at totalThen (movedEach each lost gained) (λ m. refl)
+
+  moved-past : (m k : ℕ) → m ≤ k → getD (movedEach each lost gained m) k 0 ≡ getD each k 0
+  unfolding movedEach
+  moved-past = filled-past totalThen (movedEach each lost gained) (λ m. refl)
+
+  -- one more of them
+  pub moved-more : (k : ℕ) → set (movedEach each lost gained k) k (totalThen k) ≡ movedEach each lost gained (k + 1)
+  unfolding movedEach
+  moved-more k = rw add-one refl
+
+  pub outside-more : (k : ℕ) → oneOutside each lost gained k ≡ false → Leaves k ≡ false → oneOutside each lost gained (k + 1) ≡ false
+  unfolding oneOutside
+  outside-more k before here = rw add-one (ap₂ _||_ before here)
+
+  -- one more that stays as it is
+  pub moved-still : (k : ℕ) → (has lost k || has gained k) ≡ false → movedEach each lost gained k ≡ movedEach each lost gained (k + 1)
+  moved-still k neither =
+      let list = movedEach each lost gained k in
+      sym (ap (set list k) (still (has lost k) (has gained k) (getD each k 0) neither ∙ sym (moved-past k k (le-refl k))) ∙ set-getD list k 0) ∙ moved-more k
+
+  pub outside-still : (k : ℕ) → (has lost k || has gained k) ≡ false → oneOutside each lost gained k ≡ false → oneOutside each lost gained (k + 1) ≡ false
+  outside-still k neither before = outside-more k before (still-inside (has lost k) (has gained k) (getD each k 0) neither)
+
+  -- one that goes outside is found
+  pub outside-at : (m k : ℕ) → k < m → Leaves k ≡ true → oneOutside each lost gained m ≡ true
+  unfolding oneOutside
+  outside-at zero k l h = absurd (omega arith)
+  outside-at (suc m) k l h = go (decLt k m) (λ b. outside-at m k b h)
+    where
+      go : Dec (k < m) → (k < m → oneOutside each lost gained m ≡ true) → (oneOutside each lost gained m || Leaves m) ≡ true
+      go (yes b) before = or-first _ _ (before b)
+      go (no d) before = let e : k ≡ m = omega arith in or-second (oneOutside each lost gained m) _ (rw e at h)
+
+  each-inside : (m : ℕ) → ((k : ℕ) → k < m → Leaves k ≡ false) → oneOutside each lost gained m ≡ false
+  unfolding oneOutside
+  each-inside zero f = refl
+  each-inside (suc m) f = ap₂ _||_ (each-inside m (λ k l. f k (omega arith))) (f m (omega arith))
+
+  -- where nothing is lost and nothing gained all stay
+  each-stays : ((k : ℕ) → (has lost k || has gained k) ≡ false) → (m : ℕ) → movedEach each lost gained m ≡ each
+  unfolding movedEach
+  each-stays neither zero = refl
+  each-stays neither (suc m) = sym (rw add-one at (moved-still m (neither m))) ∙ each-stays neither m
 
 module _ (t : Totals) (lost gained : ℕ) (none : union lost gained ≡ 0) where
   neither : (k : ℕ) → (has lost k || has gained k) ≡ false
@@ -117,7 +136,7 @@ module _ (t : Totals) (lost gained : ℕ) (none : union lost gained ≡ 0) where
 
   pub stay-inside : anyOutside t lost gained ≡ false
   unfolding anyOutside
-  stay-inside = none-outside (t .each) lost gained neither kindCount
+  stay-inside = each-inside (t .each) lost gained kindCount (λ k _. still-inside (has lost k) (has gained k) (getD (t .each) k 0) (neither k))
 
 -- ---- the ten
 module _ (t : Totals) (lost gained : ℕ) where
@@ -129,13 +148,19 @@ module _ (t : Totals) (lost gained : ℕ) where
   unfolding totalsAfter
   after-at k = moved-at (t .each) lost gained kindCount k
 
-  pub inside-at : anyOutside t lost gained ≡ false → (k : ℕ) → k < kindCount → goesOutside (totalOf t k) (has lost k) (has gained k) ≡ false
-  unfolding anyOutside
-  inside-at h k l = inside-each (t .each) lost gained kindCount k l h
-
   pub all-inside : ((k : ℕ) → k < kindCount → goesOutside (totalOf t k) (has lost k) (has gained k) ≡ false) → anyOutside t lost gained ≡ false
   unfolding anyOutside
   all-inside = each-inside (t .each) lost gained kindCount
+
+-- ---- what the totals move to
+module _ (t : Totals) (lost gained : ℕ) where
+  pub moved-outside : anyOutside t lost gained ≡ true → movedTotals t lost gained ≡ record { outside = true; totals = t }
+  unfolding movedTotals
+  moved-outside h = taken _ _ h
+
+  pub moved-inside : anyOutside t lost gained ≡ false → movedTotals t lost gained ≡ record { outside = false; totals = totalsAfter t lost gained }
+  unfolding movedTotals
+  moved-inside h = left _ _ h
 
 -- ---- an event
 module _ (t : Totals) (before : Session) (after : After) where
@@ -159,3 +184,27 @@ module _ (t : Totals) (before : Session) (after : After) where
   pub totalled-inside : anyOutside t (after .answer .lost) (after .answer .gained) ≡ false → totalled t before after ≡ Happens (totalsAfter t (after .answer .lost) (after .answer .gained))
   unfolding totalled
   totalled-inside h = left _ _ h
+
+  -- by what the totals move to
+  abbrev Moves : Moved
+  Moves = movedTotals t (after .answer .lost) (after .answer .gained)
+
+  abbrev found : Bool → Totals → Moved
+  found b u = pick b (record { outside = true; totals = t }) (record { outside = false; totals = u })
+
+  pub by-moved-outside : Moves .outside ≡ true → totalled t before after ≡ record { session = before; answer = record { answer = refused before totalOutside .answer; totals = Moves .totals } }
+  unfolding totalled movedTotals pick
+  by-moved-outside = go (anyOutside t (after .answer .lost) (after .answer .gained)) (totalsAfter t (after .answer .lost) (after .answer .gained))
+    where
+      go : (b : Bool) (u : Totals) → found b u .outside ≡ true
+          → pick b Stopped (Happens u) ≡ record { session = before; answer = record { answer = refused before totalOutside .answer; totals = found b u .totals } }
+      go true u h = refl
+      go false u h = absurd (true≢false (sym h))
+
+  pub by-moved-inside : Moves .outside ≡ false → totalled t before after ≡ Happens (Moves .totals)
+  unfolding totalled movedTotals pick
+  by-moved-inside = go (anyOutside t (after .answer .lost) (after .answer .gained)) (totalsAfter t (after .answer .lost) (after .answer .gained))
+    where
+      go : (b : Bool) (u : Totals) → found b u .outside ≡ false → pick b Stopped (Happens u) ≡ Happens (found b u .totals)
+      go true u h = absurd (true≢false h)
+      go false u h = refl

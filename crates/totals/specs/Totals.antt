@@ -13,6 +13,7 @@ use Rattle.session.specs.declared.After.{After}
 use Rattle.session.specs.Decisions.{refused}
 use Rattle.totals.specs.declared.Totals.{Totals}
 use Rattle.totals.specs.declared.Total.{Total}
+use Rattle.totals.specs.declared.Moved.{Moved}
 use Rattle.totals.specs.declared.Totalled.{Totalled}
 
 -- kind k at place k
@@ -56,6 +57,11 @@ totalsAfter t lost gained = record { each = movedEach (t .each) lost gained kind
 
 unfoldable pub anyOutside : Totals → ℕ → ℕ → Bool
 anyOutside t lost gained = oneOutside (t .each) lost gained kindCount
+
+-- both together, the totals as they were where one goes outside
+unfoldable pub movedTotals : Totals → ℕ → ℕ → Moved
+movedTotals t lost gained =
+    pick (anyOutside t lost gained) (record { outside = true; totals = t }) (record { outside = false; totals = totalsAfter t lost gained })
 
 -- ---- an event of a session of the row, with its totals
 -- "last, 16": session and totals stay, and nothing is lost, gained or written

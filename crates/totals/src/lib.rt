@@ -1,7 +1,7 @@
 // How many sessions of a row permit each kind: totals that are kept with the row and brought up to date from what each event lost and gained.
 ghost use mathlib.Core.Path.{_≡_};
 ghost use mathlib.Core.Bool.{false};
-ghost use Rattle.totals.specs.Totals.{once, totalAfter, goesOutside, totalsAfter, anyOutside, totalled, kindTotal};
+ghost use Rattle.totals.specs.Totals.{once, totalAfter, goesOutside, movedTotals, totalled, kindTotal};
 use session::After;
 use session::Answer;
 use session::Session;
@@ -38,6 +38,12 @@ pub struct Totalled {
     pub answer: RowAnswer,
 }
 
+// The totals after an event, or that one of them would come to stand outside 0 to 64, and then as they were.
+struct Moved {
+    outside: bool,
+    totals: Totals,
+}
+
 // 1 where it is so.
 fn once(so: bool) -> u8
     ensures { λ r. ⌜ r ≡ once so ⌝ }
@@ -64,34 +70,33 @@ fn total_after(total: u8, lost: bool, gained: bool) -> u8
 }
 
 impl Totals {
-    // Whether one of them would come to stand outside. It does not end at the first, and so goes over many at once.
-    fn any_outside(self, lost: u16, gained: u16) -> bool
-        ensures { λ r. ⌜ r ≡ anyOutside self lost gained ⌝ }
-    {
-        let each = self.each;
-        let mut outside = false;
-        for k in 0..KINDS {
-            let is_lost = sets::has(lost, k as u16);
-            let is_gained = sets::has(gained, k as u16);
-            outside = outside | goes_outside(each[k], is_lost, is_gained);
-        }
-        outside
-    }
-
     // The totals after an event that loses and gains these kinds.
-    fn after(self, lost: u16, gained: u16) -> Totals
-        requires { ⌜ anyOutside self lost gained ≡ false ⌝ }
-        ensures { λ r. ⌜ r ≡ totalsAfter self lost gained ⌝ }
+    fn moved(self, lost: u16, gained: u16) -> Moved
+        ensures { λ r. ⌜ r ≡ movedTotals self lost gained ⌝ }
     {
         let each = self.each;
+        let moving = sets::union(lost, gained);
         let mut out = each;
         for k in 0..KINDS {
+            // Most kinds stay as they are.
+            if !sets::has(moving, k as u16) {
+                continue;
+            }
             let is_lost = sets::has(lost, k as u16);
             let is_gained = sets::has(gained, k as u16);
+            if goes_outside(each[k], is_lost, is_gained) {
+                return Moved {
+                    outside: true,
+                    totals: self,
+                };
+            }
             let total = total_after(each[k], is_lost, is_gained);
             out[k] = total;
         }
-        Totals { each: out }
+        Moved {
+            outside: false,
+            totals: Totals { each: out },
+        }
     }
 
     // What an event comes to in a row with these totals: the event's own refusals, and last 16.
@@ -108,19 +113,17 @@ impl Totals {
             };
             return Totalled { session, answer };
         }
-        if self.any_outside(answer.lost, answer.gained) {
+        let moved = self.moved(answer.lost, answer.gained);
+        let totals = moved.totals;
+        if moved.outside {
             let refused = before.refused(refusals::TOTAL_OUTSIDE);
             let answer = refused.answer;
-            let answer = RowAnswer {
-                answer,
-                totals: self,
-            };
+            let answer = RowAnswer { answer, totals };
             return Totalled {
                 session: before,
                 answer,
             };
         }
-        let totals = self.after(answer.lost, answer.gained);
         let answer = RowAnswer { answer, totals };
         Totalled { session, answer }
     }

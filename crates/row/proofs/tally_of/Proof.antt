@@ -56,7 +56,7 @@ use Rattle.row.specs.declared.Survey.{Survey}
 use Rattle.row.specs.declared.Tally.{Tally}
 use Rattle.row.specs.Limiting.{mostSessions}
 use Rattle.row.specs.Row.{sessionAt}
-use Rattle.row.specs.Counting.{counting, noted}
+use Rattle.row.specs.Counting.{noted}
 use Rattle.row.specs.Survey as S
 use Rattle.row.specs.Survey.{surveyed, surveyedWith, tallyBy}
 use Rattle.row.proofs.Surveyed.{onward, onward-over, onward-surveyed}
@@ -177,7 +177,7 @@ module _ {M : Type 1} (𝓤 : URA M) (H : Heap 𝓤) (A : Atoms 𝓤) (W : Given
   Of = noted co
 
   abbrev Counting : Bool
-  Counting = counting co
+  Counting = co .counting
 
   exits : (r : Tally) → Good tally-data r → r ≡ surveyed Counting Of ys → ent 𝓤 (⋆ 𝓤 H A (‵ (flft κ q) ∷ ‵ Row ∷ [])) (Post (low tally-data r))
   exits r good is =

@@ -42,7 +42,7 @@ use Rattle.row.specs.declared.Tally.{Tally}
 use Rattle.row.specs.declared.RowTotals.{RowTotals}
 use Rattle.refusals.specs.Refusals.{outsideRow}
 use Rattle.row.specs.Row.{isRow, notTotalled, recount}
-use Rattle.row.specs.Counting.{kindsCounted, counting, noted, recountBy}
+use Rattle.row.specs.Counting.{kindsCounted, noted, recountBy}
 use Rattle.row.specs.Survey.{surveyed}
 use Rattle.row.specs.Limiting.{mostSessions}
 use Rattle.row.proofs.Tallied.{not-totalled}
@@ -180,7 +180,7 @@ module _ {M : Type 1} (𝓤 : URA M) (H : Heap 𝓤) (A : Atoms 𝓤) (W : Given
         asks ! fm (Recounting 𝓤 H A mem run) (known .1) (to-recount t) _ refl (qed W [] ∵ nothing ! $ makes ! tally-data t good $ fjoin ! $ done !)
         (and-then ! (var ! %tally refl) (no-more !)) totals-data (lasts recounted.ended tt (t, tt)) (λ c. c ≡ recountBy t) (λ v. id⊢ 𝓤 _) (λ c found made.
         lands-in ! %result refl (fits totals-data W c made .0) $ leaves ! En Post refl refl refl $
-        by ! (exits c made (found ∙ ap recountBy (said ∙ ap (λ (c : Counted). surveyed (counting c) (noted c) ys) is-co) ∙ recount-found ys there)))))
+        by ! (exits c made (found ∙ ap recountBy (said ∙ ap (λ (c : Counted). surveyed (c .counting) (noted c) ys) is-co) ∙ recount-found ys there)))))
 
     outside : isRow ys ≡ false → Sq W Tested (runs (𝓣 .C) (𝓣 .Λ) En mir.t-7 (atRet En Post))
     outside no-row =

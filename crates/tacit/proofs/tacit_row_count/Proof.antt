@@ -45,7 +45,7 @@ use Rattle.row.specs.declared.Tally.{Tally}
 use Rattle.row.specs.declared.Count.{Count}
 use Rattle.refusals.specs.Refusals.{outsideRow}
 use Rattle.row.specs.Row.{isRow, notCounted, countOf}
-use Rattle.row.specs.Counting.{applicationsCounted, counting, noted, countBy}
+use Rattle.row.specs.Counting.{applicationsCounted, noted, countBy}
 use Rattle.row.specs.Survey.{surveyed}
 use Rattle.row.specs.Limiting.{mostSessions}
 use Rattle.row.proofs.Tallied.{not-counted}
@@ -186,7 +186,7 @@ module _ {M : Type 1} (𝓤 : URA M) (H : Heap 𝓤) (A : Atoms 𝓤) (W : Given
         asks ! fm (Counting 𝓤 H A mem run) (known .1) (to-count t) _ refl (qed W [] ∵ nothing ! $ owned ! u32 (Is u32) (uint-makes 𝓤 H A W w32) n _ (refl, gm) $ fjoin ! $ makes ! tally-data t good $ fjoin ! $ done !)
         (and-then ! (var ! %tally refl) (and-then ! (var ! %ta-id refl) (no-more !))) count-data (lasts count.ended tt (t, (n, tt))) (λ c. c ≡ countBy t n) (λ v. id⊢ 𝓤 _) (λ c counted made.
         lands-in ! %result refl (fits count-data W c made .0) $ leaves ! En Post refl refl refl $
-        by ! (exits c made (counted ∙ ap (λ (t : Tally). countBy t n) (said ∙ ap (λ (c : Counted). surveyed (counting c) (noted c) ys) is-co) ∙ count-found ys n there)))))
+        by ! (exits c made (counted ∙ ap (λ (t : Tally). countBy t n) (said ∙ ap (λ (c : Counted). surveyed (c .counting) (noted c) ys) is-co) ∙ count-found ys n there)))))
 
     outside : isRow ys ≡ false → Sq W Tested (runs (𝓣 .C) (𝓣 .Λ) En mir.t-7 (atRet En Post))
     outside no-row =

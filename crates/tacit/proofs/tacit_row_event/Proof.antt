@@ -69,7 +69,7 @@ use Rattle.row.specs.declared.Counted.{Counted}
 use Rattle.row.specs.declared.Tally.{Tally}
 use Rattle.row.specs.Row.{sessionAt, inRow, eventWith, outside as outsideAnswer, rowAfter, roomAfter}
 use Rattle.row.specs.Limiting.{mostSessions}
-use Rattle.row.specs.Counting.{countedFor, counting, noted, totalledBy, roomBy}
+use Rattle.row.specs.Counting.{countedFor, noted, totalledBy, roomBy}
 use Rattle.row.specs.Survey.{surveyed}
 use Rattle.row.proofs.Tallied.{outside-answer, outside-row, outside-room}
 use Rattle.row.proofs.Found.{sound-found, event-found, room-found}
@@ -256,7 +256,7 @@ module _ {M : Type 1} (𝓤 : URA M) (H : Heap 𝓤) (A : Atoms 𝓤) (W : Given
 
   -- what the pass finds
   abbrev Found : Tally
-  Found = surveyed (counting (countedFor ev)) (noted (countedFor ev)) ys
+  Found = surveyed (countedFor ev .counting) (noted (countedFor ev)) ys
 
   -- and what `event_in` says, of the session and of what the pass found
   abbrev Event-in : Tally → Totalled
@@ -345,7 +345,7 @@ module _ {M : Type 1} (𝓤 : URA M) (H : Heap 𝓤) (A : Atoms 𝓤) (W : Given
           sets ! %room-lent (agg ! (and-then ! (var ! %room-ptr refl) (and-then ! (part ! %room 1 refl refl) (no-more !)))) refl (tt, (tt, (record { fits = gr .0 }, tt))) $
           move ! (7 ∷ []) $ use1 W (‵ Area ⊛ ‵ Area) (shr-slice-copy 𝓤 H A W (named 1) κ₁ u8 .twice area (area-val ∷ [])) $ split ! $ move ! (8 ∷ 0 ∷ 9 ∷ []) $
           -- [two tokens; area; room; area; row[i]; what it owns; the others; the open borrow; obs; auth; the locals]
-          use3 W (raw (Happening 𝓤 H A mem run .pre (to-event t))) (goes-event t (λ all. sound-found ys i (counting (countedFor ev)) (noted (countedFor ev)) inside (sym (ap (λ (u : Tally). u .sound) found) ∙ all)) good was) $
+          use3 W (raw (Happening 𝓤 H A mem run .pre (to-event t))) (goes-event t (λ all. sound-found ys i (countedFor ev .counting) (noted (countedFor ev)) inside (sym (ap (λ (u : Tally). u .sound) found) ∙ all)) good was) $
           calls-at ! fm (Happening 𝓤 H A mem run) (known .1) (to-event t) (and-then ! (var ! %session refl) (and-then ! (var ! %tally refl) (and-then ! (var ! %event refl) (and-then ! (var ! %limits refl) (and-then ! (var ! %totals refl) (and-then ! (var ! %area refl) (and-then ! (var ! %room-lent refl) (no-more !)))))))) (λ v.
           answered ! after-data Toks (lasts event.ended (κ₁, (κ₂, tt)) (event-arg t)) (λ r zs. (r ≡ Event-in t) × (zs .1 .1 .1 .1 .1 .1 .0 ≡ Room-in t)) (id⊢ 𝓤 _) (λ r zs said is.
           let ws = zs .1 .1 .1 .1 .1 .1 .0 in let parts = LL.owed Z.the-type Z′.the-laws r (low after-data r ∷ []) is in
@@ -380,7 +380,7 @@ module _ {M : Type 1} (𝓤 : URA M) (H : Heap 𝓤) (A : Atoms 𝓤) (W : Given
           move ! (2 ∷ 0 ∷ []) $ passes ! mem run (α ∷ []) fullShare (row-ref δ ys) co few gco fm (known .0) (and-then ! (var ! %row-lent refl) (and-then ! (var ! %counted refl) (no-more !))) (λ t said good.
           -- the lifetime is ended, and the row comes back
           lft-end ! tt $ use2 W (later (‵ (Obs ys) ⊛ (‵ (Bor ys) ⊛ ‵ (flft κ q)))) (comes-back T.the-row κ (α ∷ []) q γ b o ys 𝓤 H A W) $ await ! tt $ split ! $ move ! (1 ∷ []) $ split ! $ move ! (2 ∷ []) $
-          lands-in ! %tally refl (fits tally-data W t good .0) $ passed co t good (said ∙ ap (λ (c : Counted). surveyed (counting c) (noted c) ys) is-co) there))))
+          lands-in ! %tally refl (fits tally-data W t good .0) $ passed co t good (said ∙ ap (λ (c : Counted). surveyed (c .counting) (noted c) ys) is-co) there))))
         where
           few : length ys ≤ mostSessions
           few = leb-true (length ys) mostSessions (and-second (ltb i (length ys)) (leb (length ys) mostSessions) there)
