@@ -7,6 +7,8 @@ use Rattle.sets.proofs.common.Reads as sets-common
 use Rattle.sets.proofs.meets.Reads as sets-meets
 use Rattle.sets.proofs.union.Reads as sets-union
 use Rattle.sets.proofs.minus.Reads as sets-minus
+use Rattle.sets.proofs.without.Reads as sets-without
+use Rattle.sets.proofs.first.Reads as sets-first
 use Rattle.sets.proofs.numbered.Reads as sets-numbered
 use Rattle.sets.proofs.holds.Reads as sets-holds
 use Rattle.sets.proofs.switched.Reads as sets-switched
@@ -107,6 +109,8 @@ pub record SetsDetermined : Type 0 where
   pub meets : Determined (sets-meets.Post tt)
   pub union : Determined (sets-union.Post tt)
   pub minus : Determined (sets-minus.Post tt)
+  pub without : Determined (sets-without.Post tt)
+  pub first : Determined (sets-first.Post tt)
   pub numbered : Determined (sets-numbered.Post tt)
   pub holds : Determined (sets-holds.Post tt)
   pub switched : Determined (sets-switched.Post tt)

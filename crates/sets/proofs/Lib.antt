@@ -4,5 +4,6 @@ pub mod Subsets
 pub mod Switches
 pub mod Chosen
 pub mod Found
+pub mod Smallest
 pub mod Shared
 pub mod Flags

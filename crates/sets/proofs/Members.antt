@@ -78,15 +78,15 @@ same-digit : (x y : ℕ) → x < 2 → y < 2 → eqb x 1 ≡ eqb y 1 → x ≡ y
 same-digit = digits (λ (x y : ℕ). eqb x 1 ≡ eqb y 1 → x ≡ y) (λ e. refl) (λ e. cc) (λ e. cc) (λ e. refl)
 
 -- the members of the half are the members above 0
-has-half : (a k : ℕ) → has (a / 2) k ≡ has a (suc k)
+pub has-half : (a k : ℕ) → has (a / 2) k ≡ has a (suc k)
 unfolding has
 has-half a k = ap (λ (n : ℕ). eqb (n % 2) 1) (shr-shr a 1 k ∙ ap (λ (n : ℕ). a / 2 ^ n) (one-add k))
 
-has-zeroth : (a : ℕ) → has a 0 ≡ eqb (a % 2) 1
+pub has-zeroth : (a : ℕ) → has a 0 ≡ eqb (a % 2) 1
 unfolding has
 has-zeroth a = ap (λ (n : ℕ). eqb (n % 2) 1) (div-one a)
 
-half-lt : (a w : ℕ) → a < 2 ^ suc w → a / 2 < 2 ^ w
+pub half-lt : (a w : ℕ) → a < 2 ^ suc w → a / 2 < 2 ^ w
 half-lt a w h = shr-lt w 1 (rw add-one h)
 
 -- two sets with the same members below the width are one

@@ -4,6 +4,7 @@ use Prim.Native.Nat.{ℕ, zero, suc, _+_, _-_, _/_, _%_, _^_}
 use mathlib.Core.Path.{_≡_}
 use mathlib.Core.Bool.{Bool, true, not, _&&_}
 use lib.Bits.{bitAnd, bitOr, bitXor}
+use lib.Count.{trailingZeros}
 use lib.Dec.{eqb, leb, ltb}
 use Rattle.choice.specs.Pick.{pick}
 
@@ -37,6 +38,10 @@ with s k = union s (one k)
 
 unfoldable pub without : ℕ → ℕ → ℕ
 without s k = minus s (one k)
+
+-- the smallest that is in s, and setWidth where nothing is
+unfoldable pub first : ℕ → ℕ
+first s = trailingZeros setWidth s
 
 -- nothing is in s
 unfoldable pub empty : ℕ → Bool

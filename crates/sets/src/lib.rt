@@ -2,7 +2,7 @@
 // widened on its way in.
 ghost use mathlib.Core.Path.{_≡_};
 ghost use Prim.Native.Nat.{_<_, _≤_};
-ghost use Rattle.sets.specs.Set.{setWidth, has, common, meets, union, minus, with, without, numbered, holds, switched};
+ghost use Rattle.sets.specs.Set.{setWidth, has, common, meets, union, minus, with, without, first, numbered, holds, switched};
 
 // The members of a set are below this.
 const WIDTH: u16 = 16;
@@ -52,11 +52,19 @@ fn with(s: u16, k: u16) -> u16
     union(s, 1u16 << k)
 }
 
-fn without(s: u16, k: u16) -> u16
+// The set without k.
+pub fn without(s: u16, k: u16) -> u16
     requires { ⌜ k < setWidth ⌝ }
     ensures { λ r. ⌜ r ≡ without s k ⌝ }
 {
     minus(s, 1u16 << k)
+}
+
+// The smallest that is in the set, and 16 where nothing is.
+pub fn first(s: u16) -> u16
+    ensures { λ r. ⌜ r ≡ first s ⌝ }
+{
+    u16::trailing_zeros(s) as u16
 }
 
 // Whether n is one of the numbers 1 to w. In a set of them n stands at place n - 1.

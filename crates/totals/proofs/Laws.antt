@@ -105,6 +105,28 @@ module _ (each : List ℕ) (lost gained : ℕ) where
   pub outside-still : (k : ℕ) → (has lost k || has gained k) ≡ false → oneOutside each lost gained k ≡ false → oneOutside each lost gained (k + 1) ≡ false
   outside-still k neither before = outside-more k before (still-inside (has lost k) (has gained k) (getD each k 0) neither)
 
+  -- and so do all from one to another of which none is lost or gained
+  abbrev Still : ℕ → ℕ → Type 0
+  Still k m = (j : ℕ) → k ≤ j → j < m → (has lost j || has gained j) ≡ false
+
+  still-more : (k d : ℕ) → Still k (k + d) → movedEach each lost gained k ≡ movedEach each lost gained (k + d)
+  still-more k zero f = let e : k ≡ k + 0 = omega arith in ap (movedEach each lost gained) e
+  still-more k (suc d) f =
+      let e : k + d + 1 ≡ k + suc d = omega arith in
+      still-more k d (λ j least most. f j least (omega arith)) ∙ moved-still (k + d) (f (k + d) (omega arith) (omega arith)) ∙ ap (movedEach each lost gained) e
+
+  inside-more : (k d : ℕ) → Still k (k + d) → oneOutside each lost gained k ≡ false → oneOutside each lost gained (k + d) ≡ false
+  inside-more k zero f before = let e : k + 0 ≡ k = omega arith in rw e before
+  inside-more k (suc d) f before =
+      let e : k + suc d ≡ k + d + 1 = omega arith in
+      rw e (outside-still (k + d) (f (k + d) (omega arith) (omega arith)) (inside-more k d (λ j least most. f j least (omega arith)) before))
+
+  pub still-to : (k m : ℕ) → k ≤ m → Still k m → movedEach each lost gained k ≡ movedEach each lost gained m
+  still-to k m l f = let e : k + (m - k) ≡ m = omega arith in rw e at (still-more k (m - k) (rw e f))
+
+  pub inside-to : (k m : ℕ) → k ≤ m → Still k m → oneOutside each lost gained k ≡ false → oneOutside each lost gained m ≡ false
+  inside-to k m l f before = let e : k + (m - k) ≡ m = omega arith in rw e at (inside-more k (m - k) (rw e f) before)
+
   -- one that goes outside is found
   pub outside-at : (m k : ℕ) → k < m → Leaves k ≡ true → oneOutside each lost gained m ≡ true
   unfolding oneOutside
@@ -154,13 +176,18 @@ module _ (t : Totals) (lost gained : ℕ) where
 
 -- ---- what the totals move to
 module _ (t : Totals) (lost gained : ℕ) where
+  -- where one goes outside, they stay
   pub moved-outside : anyOutside t lost gained ≡ true → movedTotals t lost gained ≡ record { outside = true; totals = t }
   unfolding movedTotals
   moved-outside h = taken _ _ h
 
-  pub moved-inside : anyOutside t lost gained ≡ false → movedTotals t lost gained ≡ record { outside = false; totals = totalsAfter t lost gained }
-  unfolding movedTotals
-  moved-inside h = left _ _ h
+  -- where none of the first k does and no other moves, the first k are all
+  pub moved-inside : (k : ℕ) → k ≤ kindCount → Still (t .each) lost gained k kindCount → oneOutside (t .each) lost gained k ≡ false
+      → movedTotals t lost gained ≡ record { outside = false; totals = record { each = movedEach (t .each) lost gained k } }
+  unfolding movedTotals anyOutside totalsAfter
+  moved-inside k l still before =
+      left _ _ (inside-to (t .each) lost gained k kindCount l still before)
+      ∙ ap (λ (each : List ℕ). record { outside = false; totals = record { each = each } }) (sym (still-to (t .each) lost gained k kindCount l still))
 
 -- ---- an event
 module _ (t : Totals) (before : Session) (after : After) where

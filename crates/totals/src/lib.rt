@@ -75,15 +75,15 @@ impl Totals {
         ensures { λ r. ⌜ r ≡ movedTotals self lost gained ⌝ }
     {
         let each = self.each;
-        let moving = sets::union(lost, gained);
         let mut out = each;
-        for k in 0..KINDS {
-            // Most kinds stay as they are.
-            if !sets::has(moving, k as u16) {
-                continue;
-            }
-            let is_lost = sets::has(lost, k as u16);
-            let is_gained = sets::has(gained, k as u16);
+        // Most events move few kinds: only these are gone through, from the first on. Those below `next` are done.
+        let mut rest = sets::common(kinds::ALL_KINDS, sets::union(lost, gained));
+        let mut next = 0;
+        while rest != 0 {
+            let kind = sets::first(rest);
+            let k = kind as usize;
+            let is_lost = sets::has(lost, kind);
+            let is_gained = sets::has(gained, kind);
             if goes_outside(each[k], is_lost, is_gained) {
                 return Moved {
                     outside: true,
@@ -92,6 +92,8 @@ impl Totals {
             }
             let total = total_after(each[k], is_lost, is_gained);
             out[k] = total;
+            rest = sets::without(rest, kind);
+            next = k + 1;
         }
         Moved {
             outside: false,

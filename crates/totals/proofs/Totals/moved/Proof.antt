@@ -1,73 +1,107 @@
--- `Totals::moved` meets its contract: the loop's invariant: the first k are brought up to date, and none of them goes outside. Assumes nothing.
-use Prim.Native.Nat.{ℕ, _≤_, _-_}
-use mathlib.Core.Path.{_≡_, refl, sym, ap, _∙_}
+-- `Totals::moved` meets its contract: the loop's invariant: the kinds below the next one are brought up to date, none of them goes outside, and of the others
+-- those that move are left. Assumes nothing.
+use Prim.Native.Nat.{ℕ, _-_, _≤_}
+use mathlib.Core.Path.{_≡_, refl, sym, ap, subst, _∙_}
 use mathlib.Core.Bool.{false}
 use mathlib.Core.List.{List}
 use native.Mathlib.Omega.{arith}
 use borrow.Author.Needs.{needs}
-use borrow.Author.Tests.{not-true}
-use Rattle.sets.specs.Set.{has}
-use Rattle.sets.proofs.Members.{has-union}
-use Rattle.kinds.specs.Kinds.{kindCount}
-use Rattle.totals.specs.Totals.{movedEach, oneOutside, totalsAfter, anyOutside}
-use Rattle.totals.proofs.Laws.{moved-more, outside-more, moved-still, outside-still, outside-at, moved-outside, moved-inside}
+use Rattle.kinds.specs.Kinds.{kindCount, allKinds}
+use Rattle.sets.specs.Set.{common}
+use Rattle.totals.specs.Totals.{movedEach, oneOutside, anyOutside}
+use Rattle.totals.proofs.Rest.{Rest, rest-begins, none-left, kind-lt, next-le, between, rest-next}
+use Rattle.totals.proofs.Laws.{moved-more, outside-more, still-to, inside-to, outside-at, moved-outside, moved-inside}
 use Rattle.totals.proofs.Totals.moved.Statement.{statement}
 use Rattle.totals.proofs.Totals.moved.Tie as tie
 
 abbrev Inv-loop : tie.InvT-loop
-Inv-loop self lost gained each moving out₀ k₀ out k = (k ≤ kindCount) × (out ≡ movedEach each lost gained k) × (oneOutside each lost gained k ≡ false)
+Inv-loop self lost gained each out₀ rest₀ next₀ out rest next =
+    (next ≤ kindCount) × (out ≡ movedEach each lost gained next) × (oneOutside each lost gained next ≡ false) × Rest lost gained rest next
 
 abbrev μ-loop : tie.MeasureT-loop
-μ-loop self lost gained each moving out₀ k₀ out k = kindCount - k
+μ-loop self lost gained each out₀ rest₀ next₀ out rest next = kindCount - next
 
 loop-holds : tie.Need-loop-holds Inv-loop μ-loop
 unfolding movedEach oneOutside
-loop-holds c = (omega arith, refl, refl)
+loop-holds c =
+    let a = c .before .before .before .args in
+    (omega arith, refl, refl, subst (λ (s : ℕ). Rest (a .lost) (a .gained) s 0) (sym (c .common .ensures ∙ ap (common allKinds) (c .before .union .ensures))) (rest-begins (a .lost) (a .gained)))
 
--- the kind is neither lost nor gained
-loop-again : tie.Need-loop-again Inv-loop μ-loop
-loop-again c =
-    let l = c .before .before .before .loop in
-    let a = c .before .before .before .before .before .before .args in
-    let neither = sym (has-union (a .lost) (a .gained) (l .k)) ∙ sym (ap (λ (s : ℕ). has s (l .k)) (c .before .before .before .before .union .ensures)) ∙ sym (c .before .has .ensures) ∙ not-true _ (c .if1 .taken) in
-    (omega arith, l .inv .1 ∙ moved-still _ _ _ (l .k) neither, outside-still _ _ _ (l .k) neither (l .inv .2))
+-- the kind that is next is one
+array-read-goes-outside : tie.Need-array-read-goes-outside Inv-loop μ-loop
+array-read-goes-outside c = kind-lt _ _ _ _ (c .before .before .before .before .loop .inv .3) (c .before .before .before .loop-test .taken) _ (c .before .before .first .ensures)
+
+array-read-total-after : tie.Need-array-read-total-after Inv-loop μ-loop
+array-read-total-after c =
+    kind-lt _ _ _ _ (c .before .before .before .before .before .before .loop .inv .3) (c .before .before .before .before .before .loop-test .taken) _ (c .before .before .before .before .first .ensures)
+
+array-write-out : tie.Need-array-write-out Inv-loop μ-loop
+array-write-out c =
+    kind-lt _ _ _ _ (c .before .before .before .before .before .before .before .loop .inv .3) (c .before .before .before .before .before .before .loop-test .taken) _
+    (c .before .before .before .before .before .first .ensures)
+
+without-requires : tie.Need-without-requires Inv-loop μ-loop
+without-requires c κs = let inside = array-write-out c in omega arith
 
 returns : tie.Need-returns Inv-loop μ-loop
 unfolding anyOutside
 returns c =
-    let l = c .before .before .before .before .before .before .before .loop in
+    let l = c .before .before .before .before .before .before .loop in
     let a = c .before .before .before .before .before .before .before .before .before .before .args in
-    sym (moved-outside (a .self) (a .lost) (a .gained) (outside-at _ _ _ kindCount (l .k) (omega arith)
-    (rw (c .before .before .before .has2 .ensures, c .before .before .has3 .ensures) at (sym (c .before .goes-outside .ensures) ∙ c .if2 .taken))))
+    let inside = kind-lt _ _ _ _ (l .inv .3) (c .before .before .before .before .before .loop-test .taken) _ (c .before .before .before .before .first .ensures) in
+    sym (moved-outside (a .self) (a .lost) (a .gained) (outside-at _ _ _ kindCount _ inside
+    (rw (c .before .before .before .has .ensures, c .before .before .has2 .ensures) at (sym (c .before .goes-outside .ensures) ∙ c .if1 .taken))))
 
 total-after-requires : tie.Need-total-after-requires Inv-loop μ-loop
-total-after-requires c κs = sym (c .before .goes-outside .ensures) ∙ c .if2 .left
+total-after-requires c κs = sym (c .before .goes-outside .ensures) ∙ c .if1 .left
 
-loop-again-2 : tie.Need-loop-again-2 Inv-loop μ-loop
-loop-again-2 c =
+add-next : tie.Need-add-next Inv-loop μ-loop
+add-next c =
+    let inside =
+    kind-lt _ _ _ _ (c .before .before .before .before .before .before .before .before .loop .inv .3) (c .before .before .before .before .before .before .before .loop-test .taken) _
+    (c .before .before .before .before .before .before .first .ensures) in
+    omega arith
+
+loop-less : tie.Need-loop-less Inv-loop μ-loop
+loop-less c =
     let l = c .before .before .before .before .before .before .before .before .loop in
-    let two = c .before .before .before .before .has2 .ensures in
-    let three = c .before .before .before .has3 .ensures in (
+    let some = c .before .before .before .before .before .before .before .loop-test .taken in
+    let is = c .before .before .before .before .before .before .first .ensures in
+    let inside = kind-lt _ _ _ _ (l .inv .3) some _ is in
+    let least = next-le _ _ _ _ (l .inv .3) some _ is in
+    omega arith
+
+loop-again : tie.Need-loop-again Inv-loop μ-loop
+loop-again c =
+    let l = c .before .before .before .before .before .before .before .before .loop in
+    let some = c .before .before .before .before .before .before .before .loop-test .taken in
+    let is = c .before .before .before .before .before .before .first .ensures in
+    let k = c .before .before .before .before .before .before .first .result in
+    let inside = kind-lt _ _ _ _ (l .inv .3) some _ is in
+    let least = next-le _ _ _ _ (l .inv .3) some _ is in
+    let still = between _ _ _ _ (l .inv .3) some _ is in
+    let one = c .before .before .before .before .before .has .ensures in
+    let two = c .before .before .before .before .has2 .ensures in (
       omega arith,
-      rw (c .total-after .ensures, two, three, l .inv .1) (moved-more _ _ _ (l .k)),
-      outside-more _ _ _ (l .k) (l .inv .2) (rw (two, three) at (sym (c .before .before .goes-outside .ensures) ∙ c .before .if2 .left)),
+      rw (c .before .total-after .ensures, one, two, l .inv .1 ∙ still-to _ _ _ (l .next) k least still) (moved-more _ _ _ k),
+      outside-more _ _ _ k (inside-to _ _ _ (l .next) k least still (l .inv .2)) (rw (one, two) at (sym (c .before .before .before .goes-outside .ensures) ∙ c .before .before .if1 .left)),
+      rw (c .without .ensures) (rest-next _ _ _ _ (l .inv .3) some k is),
     )
 
 returns-2 : tie.Need-returns-2 Inv-loop μ-loop
-unfolding anyOutside totalsAfter
 returns-2 c =
     let l = c .before .loop in
-    let a = c .before .before .before .before .args in
-    let e : l .k ≡ kindCount = omega arith in
-    ap (λ (out : List ℕ). record { outside = false; totals = record { each = out } }) (rw e at (l .inv .1)) ∙ sym (moved-inside (a .self) (a .lost) (a .gained) (rw e at (l .inv .2)))
+    let a = c .before .before .before .before .before .args in
+    ap (λ (out : List ℕ). record { outside = false; totals = record { each = out } }) (l .inv .1)
+    ∙ sym (moved-inside (a .self) (a .lost) (a .gained) (l .next) (l .inv .0) (none-left _ _ _ _ (l .inv .3) (c .loop-test .left)) (l .inv .2))
 
 pub moved-spec : {M : Type 1} → statement M
 moved-spec =
     tie.close
     (tie.spec
-    Inv-loop μ-loop (λ c κs. search needs) loop-holds
-    (λ c. omega arith) (λ c κs. omega arith) (λ c. omega arith) (λ c. omega arith) loop-again
-    (λ c. omega arith) (λ c κs. omega arith) (λ c. omega arith) (λ c κs. omega arith)
-    (λ c. omega arith) (λ c κs. search needs) returns
-    (λ c. omega arith) total-after-requires (λ c. omega arith) (λ c. omega arith) (λ c. omega arith) loop-again-2
+    Inv-loop μ-loop (λ c κs. search needs) (λ c κs. search needs) loop-holds
+    (λ c κs. search needs) (λ c. search needs) (λ c κs. search needs) (λ c κs. search needs)
+    array-read-goes-outside (λ c κs. search needs) returns
+    array-read-total-after total-after-requires array-write-out
+    without-requires add-next loop-less loop-again
     returns-2)
