@@ -10,6 +10,7 @@ use lib.Dec.{ltb, leb, lit<}
 use native.Mathlib.Decide.{decLt}
 use native.Mathlib.Omega.{arith}
 use borrow.Author.Tests.{ltb-true, leb-true, lt-ltb, not-true}
+use Rattle.choice.specs.Pick.{pick}
 use Rattle.choice.proofs.Branch.{by-test, taken, left}
 use Rattle.choice.proofs.Tests.{and-first, and-second}
 use Rattle.sets.specs.Set.{has, union}
@@ -24,11 +25,11 @@ use Rattle.session.proofs.Steps.{Moves, refused-moves, step-moves, step-refusal
 use Rattle.session.proofs.Shapes.{ready-permits}
 use Rattle.totals.specs.declared.Totals.{Totals}
 use Rattle.totals.specs.declared.Totalled.{Totalled}
-use Rattle.totals.specs.Totals.{totalOf, once, totalAfter, goesOutside, anyOutside, totalsAfter, kindTotal}
+use Rattle.totals.specs.Totals.{totalOf, totalAfter, goesOutside, anyOutside, totalsAfter, kindTotal}
 use Rattle.totals.proofs.Laws.{Happens, stays-inside, stay-inside, after-length, after-at, all-inside, totalled-by, totalled-inside}
 use Rattle.row.specs.declared.RowTotals.{RowTotals}
 use Rattle.row.specs.Limiting.{mostSessions}
-use Rattle.row.specs.Row.{sessionAt, walk, walkTotals, allSound, isRow, inRow, eventIn, eventAt, recount}
+use Rattle.row.specs.Row.{sessionAt, once, walk, walkTotals, allSound, isRow, inRow, eventIn, eventAt, recount}
 use Rattle.row.proofs.HowMany.{how-many-le, how-many-lt, how-many-some, how-many-set}
 use Rattle.row.proofs.Walked.{walk-length, walk-at, are-the-walk}
 use Rattle.promises.specs.Rows.{TotalledRow, RowEvent, ownStep, totalledStep, rowStep, rowThen, rowRun, EqualWalk, IsFresh, AllFresh}
@@ -46,6 +47,14 @@ own-unless-outside w e =
     totalled-by (w .totals) (sessionAt (w .sessions) (e .at)) (ownStep (w .sessions) e)
     (λ (t : Totalled). (t .answer .answer .refusal ≡ totalOutside → ⊥) → record { session = t .session; answer = t .answer .answer } ≡ ownStep (w .sessions) e)
     (λ _ h. absurd (h refl)) (λ _ _. refl)
+
+-- ---- a total by what was permitted before and is after
+moves-so : (b a : Bool) (c c′ : ℕ) → c′ + once (b && not a) ≡ c + once (a && not b) → totalAfter c (b && not a) (a && not b) ≡ c′
+unfolding totalAfter pick
+moves-so true true c c′ h = omega arith
+moves-so true false c c′ h = omega arith
+moves-so false true c c′ h = omega arith
+moves-so false false c c′ h = omega arith
 
 -- ---- one event by itself
 module _ (row : List Session) (e : RowEvent) where
@@ -83,16 +92,12 @@ module _ (row : List Session) (e : RowEvent) where
   -- and a total moves as the walk does
   walk-moves : e .at < length row → (k : ℕ)
       → totalAfter (walk row k) (has (ownStep row e .answer .lost) k) (has (ownStep row e .answer .gained) k) ≡ walk (set row (e .at) after) k
-  unfolding totalAfter
   walk-moves l k =
       let b = has (permitted before) k in
       let a = has (permitted after) k in
       let moved =
       one-place (walk row k) (walk (set row (e .at) after) k) (once a) (once b) (once (a && not b)) (once (b && not a)) (how-many-set (λ s. has (permitted s) k) row (e .at) after l) (changed-by b a) in
-      ap₂ (λ (x y : Bool). walk row k + once y - once x) (lost-at k) (gained-at k) ∙ back (walk (set row (e .at) after) k) (walk row k) (once (b && not a)) (once (a && not b)) moved
-    where
-      back : (c′ c l g : ℕ) → c′ + l ≡ c + g → c + g - l ≡ c′
-      back c′ c l g h = omega arith
+      ap₂ (totalAfter (walk row k)) (lost-at k) (gained-at k) ∙ moves-so b a (walk row k) (walk (set row (e .at) after) k) moved
 
   own-outside : inRow row (e .at) ≡ false → ownStep row e ≡ refused before outsideRow
   unfolding eventAt

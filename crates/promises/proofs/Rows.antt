@@ -28,10 +28,9 @@ use Rattle.session.proofs.SoundMeans.{sound-means, means-sound}
 use Rattle.session.proofs.Steps.{step-sound, step-bare}
 use Rattle.totals.specs.declared.Totals.{Totals}
 use Rattle.totals.specs.declared.Totalled.{Totalled}
-use Rattle.totals.specs.Totals.{once}
 use Rattle.totals.proofs.Laws.{Happens, totalled-by, totals-stay, totalled-still}
 use Rattle.row.specs.Limiting.{mostSessions}
-use Rattle.row.specs.Row.{sessionAt, uses, howMany, count, allSound, inRow, eventIn, eventAt, outside}
+use Rattle.row.specs.Row.{sessionAt, uses, once, howMany, count, allSound, inRow, eventIn, eventAt, outside}
 use Rattle.row.proofs.Tallied.{refused-outside, room-stays}
 use Rattle.row.proofs.HowMany.{how-many-set}
 use Rattle.promises.specs.Rows.{TotalledRow, RowEvent, ownStep, totalledStep, rowStep, rowThen, rowRun, SoundOverRows, OthersStay, RowRefusedIsNothing, gains, losses, gainedBy, lostBy, IsFresh, AllFresh, CountsFollow}

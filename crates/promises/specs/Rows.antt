@@ -23,8 +23,8 @@ use Rattle.row.specs.Limiting.{noLimits, limitOf}
 use Rattle.row.specs.Events.{initializationNumber, eventOf}
 use Rattle.totals.specs.declared.Totals.{Totals}
 use Rattle.totals.specs.declared.Totalled.{Totalled}
-use Rattle.totals.specs.Totals.{totalOf, once}
-use Rattle.row.specs.Row.{sessionAt, uses, count, walk, allSound, inRow, eventAt, eventWith, rowAfter, roomAfter}
+use Rattle.totals.specs.Totals.{totalOf}
+use Rattle.row.specs.Row.{sessionAt, uses, once, count, walk, allSound, inRow, eventAt, eventWith, rowAfter, roomAfter}
 
 -- a row, and the totals that are kept with it
 pub record TotalledRow : Type 0 where

@@ -9,8 +9,7 @@ use native.Mathlib.Nat.{le-refl}
 use native.Mathlib.Omega.{arith}
 use Rattle.choice.proofs.Branch.{taken, left, by-test}
 use Rattle.session.specs.declared.Session.{Session}
-use Rattle.totals.specs.Totals.{once}
-use Rattle.row.specs.Row.{sessionAt, howMany}
+use Rattle.row.specs.Row.{sessionAt, once, howMany}
 
 pub same-question : (so other : Session → Bool) → ((s : Session) → so s ≡ other s) → (row : List Session) → howMany so row ≡ howMany other row
 unfolding howMany

@@ -19,7 +19,7 @@ use Rattle.session.specs.Events.{Event, step, messageFor}
 use Rattle.totals.specs.declared.Totals.{Totals}
 use Rattle.totals.specs.declared.RowAnswer.{RowAnswer}
 use Rattle.totals.specs.declared.Totalled.{Totalled}
-use Rattle.totals.specs.Totals.{once, noTotals, totalled}
+use Rattle.totals.specs.Totals.{noTotals, totalled}
 use Rattle.row.specs.declared.EventNumbers.{EventNumbers}
 use Rattle.row.specs.declared.Limits.{Limits}
 use Rattle.row.specs.declared.Count.{Count}
@@ -34,6 +34,10 @@ sessionAt row at = getD row at noSession
 -- "used by": Open, in force, both enabled and listed
 abbrev pub uses : Session → ℕ → Bool
 uses s n = isIn (used s) n
+
+-- 1 where it is so
+abbrev pub once : Bool → ℕ
+once so = pick so 1 0
 
 -- how many sessions of the row are so
 unfoldable pub howMany : (Session → Bool) → List Session → ℕ

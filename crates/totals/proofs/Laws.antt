@@ -1,17 +1,16 @@
 -- Laws of totals: what one that does not go outside is, where each stands after an event, and that nothing lost and nothing gained leaves them as they were; so
 -- what an event comes to. By cases on lost and gained, and by induction over the places. Assumes nothing.
-use Prim.Native.Nat.{ℕ, zero, suc, _+_, _-_, _^_, _<_, _≤_, zero-le}
+use Prim.Native.Nat.{ℕ, zero, suc, _+_, _-_, _<_, _≤_}
 use mathlib.Core.Path.{_≡_, refl, sym, ap, ap₂, _∙_}
 use mathlib.Core.Bool.{Bool, true, false, _&&_, _||_, true≢false}
 use mathlib.Core.List.{List}
 use lib.ListN.{length, getD, set}
 use lib.Seq.{set-getD}
-use lib.Dec.{eqb, ltb}
 use native.Mathlib.Decide.{decLt}
 use native.Mathlib.Nat.{le-refl}
 use native.Mathlib.Numerals.{add-one}
 use native.Mathlib.Omega.{arith}
-use borrow.Author.Tests.{le-ltb, ltb-false, ne-eqb, eqb-false}
+use borrow.Author.Tests.{le-ltb, ne-eqb}
 use Rattle.choice.specs.Pick.{pick}
 use Rattle.choice.proofs.Branch.{taken, left, by-test}
 use Rattle.choice.proofs.Tests.{or-first, or-second, or-neither}
@@ -25,47 +24,42 @@ use Rattle.session.specs.Decisions.{refused}
 use Rattle.totals.specs.declared.Totals.{Totals}
 use Rattle.totals.specs.declared.Moved.{Moved}
 use Rattle.totals.specs.declared.Totalled.{Totalled}
-use Rattle.totals.specs.Totals.{totalOf, highestTotal, once, totalAfter, goesOutside, movedEach, oneOutside, totalsAfter, anyOutside, movedTotals, totalled}
+use Rattle.totals.specs.Totals.{totalOf, highestTotal, totalAfter, goesOutside, movedEach, oneOutside, totalsAfter, anyOutside, movedTotals, totalled}
 use Rattle.totals.proofs.Filled.{filled-length, filled-at, filled-past}
 
--- ---- one total that does not go outside
--- there is one to lose
-pub inside-lost : (n : ℕ) (lost gained : Bool) → goesOutside n lost gained ≡ false → once lost ≤ n
-unfolding goesOutside pick
-inside-lost n false gained h = zero-le
-inside-lost n true gained h = let some = eqb-false n 0 (or-neither _ _ (or-neither _ _ h .0) .0) in least n some
-  where
-    least : (m : ℕ) → (m ≡ 0 → ⊥) → 1 ≤ m
-    least zero some = absurd (some refl)
-    least (suc m) some = omega arith
-
--- there is room for one more in an octet
-pub inside-gained : (n : ℕ) (lost gained : Bool) → goesOutside n lost gained ≡ false → n < 2 ^ 8 → n + once gained < 2 ^ 8
-unfolding goesOutside pick
-inside-gained n lost true h l = let few = ltb-false highestTotal (n + 1) (or-neither (lost && (eqb n 0 || ltb highestTotal (n - 1))) (ltb highestTotal (n + 1)) h .1) in omega arith
-inside-gained n lost false h l = omega arith
-
--- and the other way round
+-- ---- one total
+-- that stays inside where there is one to lose, or room for one more
 and-never : (x : Bool) {y : Bool} → (x ≡ true → y ≡ false) → (x && y) ≡ false
 and-never true f = f refl
 and-never false f = refl
 
 pub stays-inside : (n : ℕ) (lost gained : Bool) → (lost ≡ true → (1 ≤ n) × (n ≤ highestTotal + 1)) → (gained ≡ true → n + 1 ≤ highestTotal) → goesOutside n lost gained ≡ false
-unfolding goesOutside
-stays-inside n lost gained f g =
-    ap₂ _||_
-    (and-never lost (λ is. let l = f is in ap₂ _||_ (ne-eqb n 0 (λ e. absurd (omega arith))) (le-ltb highestTotal (n - 1) (omega arith))))
-    (and-never gained (λ is. le-ltb highestTotal (n + 1) (g is)))
+unfolding goesOutside pick
+stays-inside n true gained f g = let l = f refl in ap₂ _||_ (ne-eqb n 0 (λ e. absurd (omega arith))) (le-ltb highestTotal (n - 1) (omega arith))
+stays-inside n false gained f g = and-never gained (λ is. le-ltb highestTotal (n + 1) (g is))
 
--- ---- one total where its kind is neither lost nor gained
+-- whose kind is neither lost nor gained
 still : (x y : Bool) (n : ℕ) → (x || y) ≡ false → totalAfter n x y ≡ n
 unfolding totalAfter pick
 still true y n h = absurd (true≢false h)
 still false true n h = absurd (true≢false h)
-still false false n h = omega arith
+still false false n h = refl
 
 still-inside : (x y : Bool) (n : ℕ) → (x || y) ≡ false → goesOutside n x y ≡ false
 still-inside x y n h = let none = or-neither x y h in stays-inside n x y (λ is. absurd (true≢false (sym is ∙ none .0))) (λ is. absurd (true≢false (sym is ∙ none .1)))
+
+-- whose kind moves: it is lost or else gained
+pub moves-to : (x y : Bool) (n : ℕ) → (x || y) ≡ true → totalAfter n x true ≡ totalAfter n x y
+unfolding totalAfter pick
+moves-to true y n h = refl
+moves-to false true n h = refl
+moves-to false false n h = absurd (true≢false (sym h))
+
+pub moves-outside : (x y : Bool) (n : ℕ) → (x || y) ≡ true → goesOutside n x true ≡ goesOutside n x y
+unfolding goesOutside pick
+moves-outside true y n h = refl
+moves-outside false true n h = refl
+moves-outside false false n h = absurd (true≢false (sym h))
 
 -- ---- each of them
 module _ (each : List ℕ) (lost gained : ℕ) where

@@ -49,7 +49,11 @@ module _ (lost gained rest next : ℕ) (r : Rest lost gained rest next) where
         go (yes l) = absurd (true≢false (sym is-in ∙ r .done k l))
         go (no d) = omega arith
 
-    -- no kind from the next one to it moves
+    -- it moves
+    pub moves : (has lost k || has gained k) ≡ true
+    moves = sym (r .still k next-le kind-lt) ∙ is-in
+
+    -- and none from the next one to it does
     pub between : (j : ℕ) → next ≤ j → j < k → (has lost j || has gained j) ≡ false
     between j least most = let l = kind-lt in sym (r .still j least (omega arith)) ∙ none-below j most
 

@@ -29,17 +29,13 @@ abbrev pub highestTotal : ℕ
 highestTotal = 64
 
 -- ---- one total
--- 1 where it is so
-abbrev pub once : Bool → ℕ
-once so = pick so 1 0
-
--- one more where its kind is gained, one less where it is lost
+-- one less where its kind is lost, one more where it is gained
 unfoldable pub totalAfter : ℕ → Bool → Bool → ℕ
-totalAfter n lost gained = n + once gained - once lost
+totalAfter n lost gained = pick lost (n - 1) (pick gained (n + 1) n)
 
--- "would take a total outside 0 to 64", which is asked only where the kind is lost or gained
+-- "would take a total outside 0 to 64", which is asked only where its kind is lost or gained
 unfoldable pub goesOutside : ℕ → Bool → Bool → Bool
-goesOutside n lost gained = (lost && (eqb n 0 || ltb highestTotal (n - 1))) || (gained && ltb highestTotal (n + 1))
+goesOutside n lost gained = pick lost (eqb n 0 || ltb highestTotal (n - 1)) (gained && ltb highestTotal (n + 1))
 
 -- ---- all of them
 -- the first k brought up to date

@@ -1,7 +1,8 @@
 // How many sessions of a row permit each kind: totals that are kept with the row and brought up to date from what each event lost and gained.
 ghost use mathlib.Core.Path.{_≡_};
-ghost use mathlib.Core.Bool.{false};
-ghost use Rattle.totals.specs.Totals.{once, totalAfter, goesOutside, movedTotals, totalled, kindTotal};
+ghost use lib.Dec.{ltb};
+ghost use mathlib.Core.Bool.{true, false};
+ghost use Rattle.totals.specs.Totals.{highestTotal, totalAfter, goesOutside, movedTotals, totalled, kindTotal};
 use session::After;
 use session::Answer;
 use session::Session;
@@ -10,7 +11,10 @@ use session::Session;
 pub const KINDS: usize = kinds::KIND_COUNT as usize;
 
 // No row has more sessions.
-const HIGHEST: u8 = 64;
+const HIGHEST: u32 = 64;
+
+// What stands for one less than 0: no total.
+const BELOW_0: u32 = u32::MAX;
 
 // Totals by kind: kind k at place k.
 #[repr(C)]
@@ -44,29 +48,18 @@ struct Moved {
     totals: Totals,
 }
 
-// 1 where it is so.
-fn once(so: bool) -> u8
-    ensures { λ r. ⌜ r ≡ once so ⌝ }
+// The total of a kind that moves, lost or else gained, after the event: above 64 where it would come to stand outside.
+fn stepped(total: u8, lost: bool) -> u32
+    ensures { λ r. ⌜ (ltb highestTotal r ≡ goesOutside total lost true) × (goesOutside total lost true ≡ false → r ≡ totalAfter total lost true) ⌝ }
 {
-    if so {
-        return 1;
+    let total = total as u32;
+    if lost {
+        if total == 0 {
+            return BELOW_0;
+        }
+        return total - 1;
     }
-    0
-}
-
-// Whether a total would come to stand outside 0 to 64, which is asked only where its kind is lost or gained.
-fn goes_outside(total: u8, lost: bool, gained: bool) -> bool
-    ensures { λ r. ⌜ r ≡ goesOutside total lost gained ⌝ }
-{
-    (lost & ((total == 0) | (HIGHEST + 1 < total))) | (gained & (HIGHEST <= total))
-}
-
-// One more where its kind is gained, one less where it is lost.
-fn total_after(total: u8, lost: bool, gained: bool) -> u8
-    requires { ⌜ goesOutside total lost gained ≡ false ⌝ }
-    ensures { λ r. ⌜ r ≡ totalAfter total lost gained ⌝ }
-{
-    total + once(gained) - once(lost)
+    total + 1
 }
 
 impl Totals {
@@ -83,15 +76,14 @@ impl Totals {
             let kind = sets::first(rest);
             let k = kind as usize;
             let is_lost = sets::has(lost, kind);
-            let is_gained = sets::has(gained, kind);
-            if goes_outside(each[k], is_lost, is_gained) {
+            let total = stepped(each[k], is_lost);
+            if HIGHEST < total {
                 return Moved {
                     outside: true,
                     totals: self,
                 };
             }
-            let total = total_after(each[k], is_lost, is_gained);
-            out[k] = total;
+            out[k] = total as u8;
             rest = sets::without(rest, kind);
             next = k + 1;
         }
