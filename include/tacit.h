@@ -21,7 +21,8 @@
  * A daemon with limits on how many sessions use an application, or one that asks
  * before a batch of labels how many sessions may get them, keeps its sessions in
  * a row instead, an array of up to 64 struct tacit_session with its totals beside
- * it, and hands both to every event: see "Rows of sessions".
+ * it, and hands both to every event: see "Rows of sessions". For calls that run at
+ * once, a row with its totals is as one record.
  *
  * Link with libtacit.a and nothing else. C11 or C++17, x86-64.
  *
@@ -757,7 +758,8 @@ struct tacit_count tacit_row_count(const struct tacit_session *row, size_t row_l
 
 /*
  * How many sessions of the row that these totals belong to permit this kind: how
- * many may be sent a label of it. The row is not looked at. Refusals: 6.
+ * many may be sent a label of it. The row is not looked at, and the total is told
+ * as it stands, whatever number it is. Refusals: 6.
  */
 struct tacit_total tacit_kind_total(struct tacit_totals totals, uint32_t kind);
 
@@ -886,8 +888,9 @@ static inline struct tacit_retry tacit_session_retry(struct tacit_session sessio
 }
 
 /*
- * tacit_wish for a session of the row. No other session is looked at. Refused,
- * every field of the session is as it was.
+ * tacit_wish for a session of the row. No other session is looked at, and the
+ * totals of the row stay right, for no kind is lost or gained. Refused, every field
+ * of the session is as it was.
  */
 static inline struct tacit_wished tacit_session_wish(struct tacit_session *session,
                                                      uint32_t wishes, uint32_t app, bool disable,

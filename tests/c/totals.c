@@ -72,7 +72,7 @@ static const struct {
     {0x3FF, "1400 0100 01 04 4800 0000 0000 00 00 00000000 01000000"},
     {0x3FF, "1400 0100 01 00 0000 0000 0000 00 00 00000000 01000000"},
     {0x27C, "1400 0100 01 00 4800 0000 0000 0F 00 00000000 01000000"},
-    /* Enabled or listed alone is not enough; of all thirteen, nine are common here. */
+    /* Enabled or listed alone is not enough; of all thirteen, three are common, then all. */
     {0x001, "1400 0100 01 14 4800 0800 0000 00 00 00000000 01000000"},
     {0x100, "1400 0100 01 14 4000 4800 0000 00 00 00000000 01000000"},
     {0x0FC, "1400 0100 01 14 FF1F 2404 0000 00 00 00000000 01000000"},

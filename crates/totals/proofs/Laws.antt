@@ -1,6 +1,6 @@
 -- Laws of totals: what one that does not go outside is, where each stands after an event, and that nothing lost and nothing gained leaves them as they were; so
 -- what an event comes to. By cases on lost and gained, and by induction over the places. Assumes nothing.
-use Prim.Native.Nat.{ℕ, zero, suc, _+_, _-_, _<_, _≤_}
+use Prim.Native.Nat.{ℕ, zero, suc, _+_, _-_, _<_, _≤_, zero-le}
 use mathlib.Core.Path.{_≡_, refl, sym, ap, ap₂, _∙_}
 use mathlib.Core.Bool.{Bool, true, false, _&&_, _||_, true≢false}
 use mathlib.Core.List.{List}
@@ -91,12 +91,12 @@ module _ (each : List ℕ) (lost gained : ℕ) where
   outside-more k before here = rw add-one (ap₂ _||_ before here)
 
   -- one more that stays as it is
-  pub moved-still : (k : ℕ) → (has lost k || has gained k) ≡ false → movedEach each lost gained k ≡ movedEach each lost gained (k + 1)
+  moved-still : (k : ℕ) → (has lost k || has gained k) ≡ false → movedEach each lost gained k ≡ movedEach each lost gained (k + 1)
   moved-still k neither =
       let list = movedEach each lost gained k in
       sym (ap (set list k) (still (has lost k) (has gained k) (getD each k 0) neither ∙ sym (moved-past k k (le-refl k))) ∙ set-getD list k 0) ∙ moved-more k
 
-  pub outside-still : (k : ℕ) → (has lost k || has gained k) ≡ false → oneOutside each lost gained k ≡ false → oneOutside each lost gained (k + 1) ≡ false
+  outside-still : (k : ℕ) → (has lost k || has gained k) ≡ false → oneOutside each lost gained k ≡ false → oneOutside each lost gained (k + 1) ≡ false
   outside-still k neither before = outside-more k before (still-inside (has lost k) (has gained k) (getD each k 0) neither)
 
   -- and so do all from one to another of which none is lost or gained
@@ -136,19 +136,14 @@ module _ (each : List ℕ) (lost gained : ℕ) where
   each-inside zero f = refl
   each-inside (suc m) f = ap₂ _||_ (each-inside m (λ k l. f k (omega arith))) (f m (omega arith))
 
-  -- where nothing is lost and nothing gained all stay
-  each-stays : ((k : ℕ) → (has lost k || has gained k) ≡ false) → (m : ℕ) → movedEach each lost gained m ≡ each
-  unfolding movedEach
-  each-stays neither zero = refl
-  each-stays neither (suc m) = sym (rw add-one at (moved-still m (neither m))) ∙ each-stays neither m
-
+-- where nothing is lost and nothing gained all stay
 module _ (t : Totals) (lost gained : ℕ) (none : union lost gained ≡ 0) where
   neither : (k : ℕ) → (has lost k || has gained k) ≡ false
   neither k = sym (has-union lost gained k) ∙ ap (λ (s : ℕ). has s k) none ∙ has-none k
 
   pub totals-stay : totalsAfter t lost gained ≡ t
-  unfolding totalsAfter
-  totals-stay = ap (λ (l : List ℕ). record { each = l }) (each-stays (t .each) lost gained neither kindCount)
+  unfolding totalsAfter movedEach
+  totals-stay = ap (λ (l : List ℕ). record { each = l }) (sym (still-to (t .each) lost gained 0 kindCount zero-le (λ k _ _. neither k)))
 
   pub stay-inside : anyOutside t lost gained ≡ false
   unfolding anyOutside

@@ -198,7 +198,7 @@ pub fn row_closed(row: &mut [Fields], at: usize, kept: &mut Totals) -> Answer {
 }
 
 /// Takes session `at` out of its row, lets the event happen, and puts the session
-/// back and the totals right unless the event was refused.
+/// back and the totals right unless the event was refused. The totals refuse it last.
 fn happen_in(
     row: &mut [Fields],
     at: usize,

@@ -45,8 +45,8 @@ impl Totals {
         self.of[kind as usize] += 1;
     }
 
-    /// The totals after an event. Those of kinds that it neither lost nor gained may
-    /// be any.
+    /// The totals after an event, or 16 where it would take one outside 0 to 64. A total
+    /// whose kind was neither lost nor gained is not asked: it may be any, and stays so.
     pub(crate) fn after(mut self, answer: Answer) -> Result<Totals, Refusal> {
         for (kind, total) in self.of.iter_mut().enumerate() {
             let lost = i32::from(answer.lost >> kind & 1);
