@@ -202,25 +202,15 @@ module _ (t : Totals) (before : Session) (after : After) where
   totalled-inside h = left _ _ h
 
   -- by what the totals move to
-  abbrev Moves : Moved
-  Moves = movedTotals t (after .answer .lost) (after .answer .gained)
+  abbrev by : Moved → Totalled
+  by m =
+      let settled : After = pick (m .outside) (refused before totalOutside) after in
+      record { session = settled .session; answer = record { answer = settled .answer; totals = m .totals } }
 
-  abbrev found : Bool → Totals → Moved
-  found b u = pick b (record { outside = true; totals = t }) (record { outside = false; totals = u })
-
-  pub by-moved-outside : Moves .outside ≡ true → totalled t before after ≡ record { session = before; answer = record { answer = refused before totalOutside .answer; totals = Moves .totals } }
+  pub by-moved : by (movedTotals t (after .answer .lost) (after .answer .gained)) ≡ totalled t before after
   unfolding totalled movedTotals pick
-  by-moved-outside = go (anyOutside t (after .answer .lost) (after .answer .gained)) (totalsAfter t (after .answer .lost) (after .answer .gained))
+  by-moved = go (anyOutside t (after .answer .lost) (after .answer .gained)) (totalsAfter t (after .answer .lost) (after .answer .gained))
     where
-      go : (b : Bool) (u : Totals) → found b u .outside ≡ true
-          → pick b Stopped (Happens u) ≡ record { session = before; answer = record { answer = refused before totalOutside .answer; totals = found b u .totals } }
-      go true u h = refl
-      go false u h = absurd (true≢false (sym h))
-
-  pub by-moved-inside : Moves .outside ≡ false → totalled t before after ≡ Happens (Moves .totals)
-  unfolding totalled movedTotals pick
-  by-moved-inside = go (anyOutside t (after .answer .lost) (after .answer .gained)) (totalsAfter t (after .answer .lost) (after .answer .gained))
-    where
-      go : (b : Bool) (u : Totals) → found b u .outside ≡ false → pick b Stopped (Happens u) ≡ Happens (found b u .totals)
-      go true u h = absurd (true≢false h)
-      go false u h = refl
+      go : (b : Bool) (u : Totals) → by (pick b (record { outside = true; totals = t }) (record { outside = false; totals = u })) ≡ pick b Stopped (Happens u)
+      go true u = refl
+      go false u = refl

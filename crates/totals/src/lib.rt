@@ -2,6 +2,9 @@
 ghost use mathlib.Core.Path.{_≡_};
 ghost use lib.Dec.{ltb};
 ghost use mathlib.Core.Bool.{true, false};
+ghost use Rattle.choice.specs.Pick.{pick};
+ghost use Rattle.refusals.specs.Refusals.{totalOutside};
+ghost use Rattle.session.specs.Decisions.{refused};
 ghost use Rattle.totals.specs.Totals.{highestTotal, totalAfter, goesOutside, movedTotals, totalled, kindTotal};
 use session::After;
 use session::Answer;
@@ -62,6 +65,16 @@ fn stepped(total: u8, lost: bool) -> u32
     total + 1
 }
 
+// The event's own, or its refusal with 16.
+fn unless_outside(outside: bool, before: Session, after: After) -> After
+    ensures { λ r. ⌜ r ≡ pick outside (refused before totalOutside) after ⌝ }
+{
+    if outside {
+        return before.refused(refusals::TOTAL_OUTSIDE);
+    }
+    after
+}
+
 impl Totals {
     // The totals after an event that loses and gains these kinds.
     fn moved(self, lost: u16, gained: u16) -> Moved
@@ -97,27 +110,13 @@ impl Totals {
     pub fn totalled(self, before: Session, after: After) -> Totalled
         ensures { λ r. ⌜ r ≡ totalled self before after ⌝ }
     {
-        let session = after.session;
         let answer = after.answer;
-        // Most events move no total.
-        if sets::union(answer.lost, answer.gained) == 0 {
-            let answer = RowAnswer {
-                answer,
-                totals: self,
-            };
-            return Totalled { session, answer };
-        }
         let moved = self.moved(answer.lost, answer.gained);
+        let outside = moved.outside;
         let totals = moved.totals;
-        if moved.outside {
-            let refused = before.refused(refusals::TOTAL_OUTSIDE);
-            let answer = refused.answer;
-            let answer = RowAnswer { answer, totals };
-            return Totalled {
-                session: before,
-                answer,
-            };
-        }
+        let settled = unless_outside(outside, before, after);
+        let session = settled.session;
+        let answer = settled.answer;
         let answer = RowAnswer { answer, totals };
         Totalled { session, answer }
     }
