@@ -1,9 +1,9 @@
 -- What limits do in a row: outcome 3 leaves the session as a mismatch would; limits decide as asked; none binds before one is set; and where none binds an
 -- event is that of the session by itself. Outcome 3 is read off the view of the session's event. Assumes nothing.
-use Prim.Native.Nat.{ℕ, suc, zero, _+_, _-_, _^_, _<_, _≤_}
+use Prim.Native.Nat.{ℕ, _+_, _-_, _^_, _<_, _≤_}
 use mathlib.Core.Path.{_≡_, refl, sym, ap, _∙_, subst}
 use mathlib.Core.Bool.{Bool, true, false, _&&_, and-true, and-false, true≢false}
-use mathlib.Core.List.{List, [], _∷_}
+use mathlib.Core.List.{List}
 use lib.ListN.{length, getD-replicate}
 use lib.Dec.{eqb, ltb, leb, lit≤}
 use native.Mathlib.Decide.{decLt}
@@ -20,7 +20,6 @@ use Rattle.sets.proofs.Members.{has-common, has-none, has-above, ext}
 use Rattle.sets.proofs.Subsets.{empty-lacks}
 use Rattle.sets.proofs.Switches.{numbered-is, is-numbered}
 use Rattle.kinds.specs.Kinds.{applicationCount, knownApplication, isIn}
-use Rattle.area.specs.Area.{readArea}
 use Rattle.session.specs.declared.Session.{Session}
 use Rattle.session.specs.declared.After.{After}
 use Rattle.session.specs.Session.{isOpen, inForce, negotiated, nothingCommon, sound, Sound}

@@ -1,7 +1,7 @@
 -- What is promised of rows and of their totals is promised of the C calls: by its contract the call for an event is the row's event, so a run of calls leaves the
 -- row and the totals that the events lead to, and those for the total of a kind and for the recount answer of them. Assumes nothing.
 use Prim.Native.Nat.{ℕ}
-use mathlib.Core.Path.{_≡_, refl, sym, ap, ap₂, _∙_, subst}
+use mathlib.Core.Path.{refl, sym, ap, ap₂, _∙_, subst}
 use mathlib.Core.List.{List, _∷_}
 use Rattle.session.specs.declared.Session.{Session}
 use Rattle.session.specs.Session.{isOpen}

@@ -1,5 +1,5 @@
--- A session of a row is the one that its own events lead to, since an event touches no other and totals that equal the walk's refuse none; so the laws of records and of numbers of 32 bits carry over.
--- By induction over the events of the row. Assumes nothing.
+-- A session of a row is the one that its own events lead to, since an event touches no other and totals that equal the walk's refuse none; so the laws of
+-- records and of numbers of 32 bits carry over. By induction over the events of the row. Assumes nothing.
 use Prim.Native.Nat.{ℕ, _<_, _^_}
 use mathlib.Core.Path.{_≡_, refl, sym, ap, _∙_, subst}
 use mathlib.Core.Bool.{Bool, true, false, _&&_}

@@ -1,9 +1,10 @@
 -- Totals that are kept with a row: what an event loses and gains is the difference of what its session permits before and after it, so totals that equal the
 -- walk's move as the walk does, and never go outside, a row having 64 sessions at the most. By the law of one place in a row, at each of the ten kinds, and
 -- induction over the events. Assumes nothing.
-use Prim.Native.Nat.{ℕ, _+_, _-_, _<_, _≤_}
+use Prim.Native.Nat.{ℕ, _+_, _<_}
 use mathlib.Core.Path.{_≡_, refl, sym, ap, ap₂, _∙_, subst}
 use mathlib.Core.Bool.{Bool, true, false, not, _&&_, true≢false}
+use mathlib.Core.Logic.{⊎-elim}
 use mathlib.Core.List.{List, [], _∷_}
 use lib.ListN.{length, set, getD-replicate}
 use lib.Dec.{ltb, leb, lit<}
@@ -26,14 +27,14 @@ use Rattle.session.proofs.Shapes.{ready-permits}
 use Rattle.totals.specs.declared.Totals.{Totals}
 use Rattle.totals.specs.declared.Totalled.{Totalled}
 use Rattle.totals.specs.Totals.{totalOf, totalAfter, goesOutside, anyOutside, totalsAfter, kindTotal}
-use Rattle.totals.proofs.Laws.{Happens, stays-inside, stay-inside, after-length, after-at, all-inside, totalled-by, totalled-inside}
+use Rattle.totals.proofs.Laws.{Happens, outside-where, lowered-outside, raised-outside, stays-inside, stay-inside, after-length, after-at, some-outside, is-outside, all-inside, totalled-by, totalled-inside}
 use Rattle.row.specs.declared.RowTotals.{RowTotals}
 use Rattle.row.specs.Limiting.{mostSessions}
 use Rattle.row.specs.Row.{sessionAt, once, walk, walkTotals, allSound, isRow, inRow, eventIn, eventAt, recount}
 use Rattle.row.proofs.HowMany.{how-many-le, how-many-lt, how-many-some, how-many-set}
 use Rattle.row.proofs.Walked.{walk-length, walk-at, are-the-walk}
 use Rattle.promises.specs.Rows.{TotalledRow, RowEvent, ownStep, totalledStep, rowStep, rowThen, rowRun, EqualWalk, IsFresh, AllFresh}
-use Rattle.promises.specs.RowTotals.{OwnRefusalsFirst, OwnUnlessOutside, TotalsStayEqual, NeverOutside, startsWith, TotalsAfter, TotalsFollow, RecountIsWalk, RecountIsKept}
+use Rattle.promises.specs.RowTotals.{OwnRefusalsFirst, OwnUnlessOutside, TakesOutside, OutsideMeans, TotalsStayEqual, NeverOutside, startsWith, TotalsFollow, RecountIsWalk, RecountIsKept}
 use Rattle.promises.proofs.Rows.{changed-by, one-place, outside-then, own-bare, own-refused, fresh-none}
 
 -- ---- 16 comes last
@@ -110,6 +111,46 @@ module _ (row : List Session) (e : RowEvent) where
       by-test (λ (a : After). a .answer .refusal < totalOutside)
       (λ _. by-test (λ (a : After). a .answer .refusal < totalOutside) (λ _. step-refusal before (eventIn row (e .event) (e .limits) (e .area) (length (e .room)))) (λ _. lit< tt))
       (λ _. lit< tt)
+
+-- ---- exactly when it is refused with 16
+module _ (w : TotalledRow) (e : RowEvent) where
+  abbrev alone : After
+  alone = ownStep (w .sessions) e
+
+  abbrev Outside : Bool
+  Outside = anyOutside (w .totals) (alone .answer .lost) (alone .answer .gained)
+
+  stopped : rowStep w e .answer .refusal ≡ totalOutside → Outside ≡ true
+  stopped =
+      totalled-by (w .totals) (sessionAt (w .sessions) (e .at)) alone (λ (t : Totalled). t .answer .answer .refusal ≡ totalOutside → Outside ≡ true)
+      (λ out _. out) (λ _ h. let few = own-refusal (w .sessions) e in absurd (omega arith))
+
+  takes-outside : Outside ≡ true → TakesOutside w e
+  takes-outside out =
+      let found = some-outside (w .totals) (alone .answer .lost) (alone .answer .gained) out in
+      record { kind = found .0; is-kind = found .1 .0; outside = outside-where _ _ _ (found .1 .1) }
+
+  -- what is gained is not lost
+  not-lost : (k : ℕ) → has (alone .answer .gained) k ≡ true → has (alone .answer .lost) k ≡ false
+  not-lost k gained =
+      let b = has (permitted (sessionAt (w .sessions) (e .at))) k in
+      let none : b ≡ false = not-true _ (and-second (has (permitted (alone .session)) k) _ (sym (gained-at (w .sessions) e k) ∙ gained)) in
+      lost-at (w .sessions) e k ∙ ap (λ (x : Bool). x && not (has (permitted (alone .session)) k)) none
+
+  is-taken : TakesOutside w e → Outside ≡ true
+  is-taken t =
+      is-outside (w .totals) _ _ (t .kind) (t .is-kind)
+      (⊎-elim
+      (λ lost. ap (λ (x : Bool). goesOutside (totalOf (w .totals) (t .kind)) x (has (alone .answer .gained) (t .kind))) (lost .0) ∙ lowered-outside _ _ (lost .1))
+      (λ gained. ap₂ (goesOutside (totalOf (w .totals) (t .kind))) (not-lost (t .kind) (gained .0)) (gained .0) ∙ raised-outside _ (gained .1))
+      (t .outside))
+
+  refused-so : Outside ≡ true → rowStep w e .answer .refusal ≡ totalOutside
+  refused-so out =
+      totalled-by (w .totals) (sessionAt (w .sessions) (e .at)) alone (λ (t : Totalled). t .answer .answer .refusal ≡ totalOutside) (λ _. refl) (λ inside. absurd (true≢false (sym out ∙ inside)))
+
+pub outside-means : OutsideMeans
+outside-means w e = ((λ h. takes-outside w e (stopped w e h)), (λ t. refused-so w e (is-taken w e t)))
 
 -- ---- totals that equal the walk's
 module _ (w : TotalledRow) (e : RowEvent) (q : EqualWalk w) where

@@ -1,7 +1,7 @@
 -- Rows of sessions with their totals: sound rows stay sound, an event touches one session, counts follow what is gained and lost, and what is refused changes
 -- nothing. By the laws of one event and of one place in a list, and induction over the row and the events. Assumes nothing.
 use Prim.Native.Nat.{ℕ, zero, suc, _+_, _-_, _<_, _≤_}
-use mathlib.Core.Path.{_≡_, refl, sym, ap, ap₂, _∙_}
+use mathlib.Core.Path.{_≡_, refl, ap, ap₂, _∙_}
 use mathlib.Core.Bool.{Bool, true, false, not, _&&_}
 use mathlib.Core.List.{List, [], _∷_}
 use lib.ListN.{length, set, length-set}

@@ -14,7 +14,7 @@ use Rattle.promises.specs.Written.{ReadAsMeant}
 use Rattle.promises.specs.Records.{RecordsFollow}
 use Rattle.promises.specs.Calls.{CallsAreEvents, RoomsAreEvents, CallsFollow, CallsAnswer, CreationIsSound, PermittedIsAsked, CallsCondition3}
 use Rattle.promises.specs.Rows.{SoundOverRows, OthersStay, RowRefusedIsNothing, CountsFollow, LimitIsMismatch, LimitsDecide, BaseWhereNoLimitBinds, NoLimitBindsUnset}
-use Rattle.promises.specs.RowTotals.{OwnRefusalsFirst, OwnUnlessOutside, TotalsStayEqual, NeverOutside, TotalsFollow, RecountIsWalk, RecountIsKept}
+use Rattle.promises.specs.RowTotals.{OwnRefusalsFirst, OwnUnlessOutside, OutsideMeans, TotalsStayEqual, NeverOutside, TotalsFollow, RecountIsWalk, RecountIsKept}
 use Rattle.promises.specs.RowCondition3.{RowCondition3}
 use Rattle.promises.specs.RowCalls.{RowCallsAreEvents, RowCallsFollow, RowCallsTotal, RowCallsCondition3}
 use Rattle.promises.specs.RowRecords.{NarrowOverRows, RowIsRun, RowRecordsFollow}
@@ -90,6 +90,7 @@ pub record Promises : Type 0 where
   pub no-limit-binds-unset : NoLimitBindsUnset
   pub own-refusals-first : OwnRefusalsFirst
   pub own-unless-outside : OwnUnlessOutside
+  pub outside-means : OutsideMeans
   pub totals-stay-equal : TotalsStayEqual
   pub never-outside : NeverOutside
   pub totals-follow : TotalsFollow

@@ -11,7 +11,7 @@ use Rattle.row.specs.declared.Limits.{Limits}
 use Rattle.row.specs.Events.{initializationNumber}
 use Rattle.row.specs.Row.{sessionAt, count}
 use Rattle.promises.specs.Examples.{tac4, tac4and7}
-use Rattle.promises.specs.Rows.{TotalledRow, RowEvent, rowStep, rowThen, rowRun}
+use Rattle.promises.specs.Rows.{TotalledRow, RowEvent, rowStep, rowRun}
 use Rattle.promises.specs.RowTotals.{startsWith}
 
 -- a fresh responding, passive session that uses TAC

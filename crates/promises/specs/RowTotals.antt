@@ -1,13 +1,15 @@
 -- L3, how many sessions may get a kind: "From totals of 0 over fresh sessions, the answer equals the walk's after any events, refused ones included", refusal 16
 -- comes last and never from there, and a recount is the walk. Assumes nothing.
-use Prim.Native.Nat.{ℕ, _<_}
+use Prim.Native.Nat.{ℕ, _+_, _<_, _≤_}
 use mathlib.Core.Path.{_≡_}
 use mathlib.Core.Bool.{true}
+use mathlib.Core.Logic.{_⊎_, _↔_}
 use mathlib.Core.List.{List}
+use Rattle.sets.specs.Set.{has}
 use Rattle.refusals.specs.Refusals.{notRefused, totalOutside}
 use Rattle.kinds.specs.Kinds.{kindCount}
 use Rattle.session.specs.declared.Session.{Session}
-use Rattle.totals.specs.Totals.{noTotals, kindTotal}
+use Rattle.totals.specs.Totals.{totalOf, highestTotal, noTotals, kindTotal}
 use Rattle.row.specs.Row.{walk, allSound, isRow, recount}
 use Rattle.promises.specs.Rows.{TotalledRow, RowEvent, ownStep, rowStep, rowThen, rowRun, EqualWalk, AllFresh}
 
@@ -18,9 +20,21 @@ OwnRefusalsFirst =
     (w : TotalledRow) (e : RowEvent) → (ownStep (w .sessions) e .answer .refusal ≡ notRefused → ⊥)
     → (rowStep w e ≡ ownStep (w .sessions) e) × (rowThen w e .totals ≡ w .totals)
 
--- refused with 16 or not, nothing else becomes of it than without totals
+-- unless it is refused with 16, it is what it is without totals
 abbrev pub OwnUnlessOutside : Type 0
 OwnUnlessOutside = (w : TotalledRow) (e : RowEvent) → (rowStep w e .answer .refusal ≡ totalOutside → ⊥) → rowStep w e ≡ ownStep (w .sessions) e
+
+-- "would take a total outside 0 to 64": one that is to be lowered stands at 0 or over 65, or one that is to be raised at 64 or over
+pub record TakesOutside (w : TotalledRow) (e : RowEvent) : Type 0 where
+  pub kind : ℕ
+  pub is-kind : kind < kindCount
+  pub outside :
+      ((has (ownStep (w .sessions) e .answer .lost) kind ≡ true) × ((totalOf (w .totals) kind ≡ 0) ⊎ (highestTotal + 1 < totalOf (w .totals) kind)))
+      ⊎ ((has (ownStep (w .sessions) e .answer .gained) kind ≡ true) × (highestTotal ≤ totalOf (w .totals) kind))
+
+-- exactly then it is refused with 16
+abbrev pub OutsideMeans : Type 0
+OutsideMeans = (w : TotalledRow) (e : RowEvent) → (rowStep w e .answer .refusal ≡ totalOutside) ↔ TakesOutside w e
 
 -- ---- totals that equal the walk's
 -- stay so by any event, refused or not

@@ -1,7 +1,7 @@
 -- Totals computed, over the ring of specs/RowExamples.antt: what two openings bring them to, what refusal 16 asks, the question, and the recount. Assumes nothing.
 use Prim.Native.Nat.{ℕ}
 use mathlib.Core.Path.{_≡_}
-use mathlib.Core.List.{List, [], _∷_}
+use mathlib.Core.List.{[], _∷_}
 use Rattle.totals.specs.declared.Totals.{Totals}
 use Rattle.totals.specs.declared.Totalled.{Totalled}
 use Rattle.totals.specs.Totals.{kindTotal}

@@ -1,5 +1,6 @@
--- What the pass finds serves as a tally of the whole row: where all sessions are sound it has the counts that an Initialization, a count or a recount asks for, where one
--- is not nothing is asked of it, and no other event asks for a count. So an event by what the pass found is the event of the row. Assumes emptyTally.
+-- What the pass finds serves as a tally of the whole row: where all sessions are sound it has the counts that an Initialization, a count or a recount asks
+-- for, where one is not nothing is asked of it, and no other event asks for a count. So an event by what the pass found is the event of the row. Assumes
+-- emptyTally.
 use Prim.Native.Nat.{ℕ, zero, suc, _-_, _<_}
 use mathlib.Core.Path.{_≡_, refl, ap, _∙_}
 use mathlib.Core.Bool.{Bool, true}

@@ -1,7 +1,7 @@
 -- How many sessions of a row are so, whatever is asked of them: the same where two questions agree, no more than there are sessions, fewer where one is not so,
 -- some where one is, and what one place of the row changes. By induction over the row. Assumes nothing.
 use Prim.Native.Nat.{ℕ, zero, suc, _+_, _<_, _≤_}
-use mathlib.Core.Path.{_≡_, refl, sym, ap, ap₂, _∙_, subst}
+use mathlib.Core.Path.{_≡_, refl, sym, ap, ap₂, subst}
 use mathlib.Core.Bool.{Bool, true, false}
 use mathlib.Core.List.{List, [], _∷_}
 use lib.ListN.{length, set}

@@ -1,6 +1,6 @@
 -- The pass by planes finds what a tally has of the sessions before the first that is not sound, whatever set of theirs is counted: a row has so few sessions
 -- that every count has a digit in each plane it needs. By induction over the row, from the law of planes. Assumes emptyTally.
-use Prim.Native.Nat.{ℕ, suc, _+_, _-_, _^_, _<_, _≤_}
+use Prim.Native.Nat.{ℕ, suc, _+_, _^_, _<_, _≤_}
 use mathlib.Core.Path.{_≡_, refl, sym, ap, _∙_}
 use mathlib.Core.Bool.{Bool, true, false, _&&_}
 use mathlib.Core.List.{List, [], _∷_}

@@ -1,5 +1,5 @@
-// A row of sessions: limits on how many use an application, totals of how many permit a kind, and an event of one session among the others. All of it goes by value but for `tally_of`,
-// which is lent the row, as the C calls are.
+// A row of sessions: limits on how many use an application, totals of how many permit a kind, and an event of one session among the others. All of it goes by
+// value but for `tally_of`, which is lent the row, as the C calls are.
 ghost use mathlib.Core.Path.{_≡_};
 ghost use mathlib.Core.Bool.{true};
 ghost use Prim.Native.Nat.{_≤_};

@@ -1,13 +1,13 @@
 -- The smallest member of a set that has one: it is in it, and nothing below it is. By induction over the digits. Assumes nothing.
-use Prim.Native.Nat.{ℕ, zero, suc, _/_, _%_, _*_, _+_, _^_, _<_}
-use mathlib.Core.Path.{_≡_, refl, sym, ap, _∙_, subst}
+use Prim.Native.Nat.{ℕ, zero, suc, _/_, _%_, _^_, _<_}
+use mathlib.Core.Path.{_≡_, refl, sym, ap, _∙_}
 use mathlib.Core.Bool.{true, false}
 use lib.Count.{trailingZeros, under}
 use lib.Dec.{eqb}
 use native.Mathlib.Nat.{mod-lt, zero-lt-suc, div-add-mod'}
 use native.Mathlib.Omega.{arith}
 use Rattle.sets.specs.Set.{setWidth, has, first}
-use Rattle.sets.proofs.Members.{has-half, has-zeroth, half-lt, has-lt}
+use Rattle.sets.proofs.Members.{has-half, has-zeroth, half-lt}
 
 -- by the lowest digit
 lowest : (P : ℕ → Type 0) (s : ℕ) → (s % 2 ≡ 0 → P 0) → (s % 2 ≡ 1 → P 1) → P (s % 2)

@@ -2,6 +2,7 @@
 -- what an event comes to. By cases on lost and gained, and by induction over the places. Assumes nothing.
 use Prim.Native.Nat.{ℕ, zero, suc, _+_, _-_, _<_, _≤_, zero-le}
 use mathlib.Core.Path.{_≡_, refl, sym, ap, ap₂, _∙_}
+use mathlib.Core.Logic.{_⊎_, inl, inr, ⊎-elim}
 use mathlib.Core.Bool.{Bool, true, false, _&&_, _||_, true≢false}
 use mathlib.Core.List.{List}
 use lib.ListN.{length, getD, set}
@@ -10,10 +11,11 @@ use native.Mathlib.Decide.{decLt}
 use native.Mathlib.Nat.{le-refl}
 use native.Mathlib.Numerals.{add-one}
 use native.Mathlib.Omega.{arith}
-use borrow.Author.Tests.{le-ltb, ne-eqb}
+use lib.Dec.{eqb, ltb}
+use borrow.Author.Tests.{ltb-true, lt-ltb, le-ltb, eqb-true, eq-eqb, ne-eqb}
 use Rattle.choice.specs.Pick.{pick}
 use Rattle.choice.proofs.Branch.{taken, left, by-test}
-use Rattle.choice.proofs.Tests.{or-first, or-second, or-neither}
+use Rattle.choice.proofs.Tests.{or-first, or-second, or-either, or-neither}
 use Rattle.sets.specs.Set.{has, union}
 use Rattle.sets.proofs.Members.{has-union, has-none}
 use Rattle.refusals.specs.Refusals.{totalOutside}
@@ -28,6 +30,23 @@ use Rattle.totals.specs.Totals.{totalOf, highestTotal, totalAfter, goesO
 use Rattle.totals.proofs.Filled.{filled-length, filled-at, filled-past}
 
 -- ---- one total
+-- that goes outside: lowered from 0 or from over 65, or raised from 64 or over
+pub outside-where : (n : ℕ) (lost gained : Bool) → goesOutside n lost gained ≡ true
+    → ((lost ≡ true) × ((n ≡ 0) ⊎ (highestTotal + 1 < n))) ⊎ ((gained ≡ true) × (highestTotal ≤ n))
+unfolding goesOutside pick
+outside-where n true gained h =
+    inl (refl, ⊎-elim (λ e. inl (eqb-true n 0 e)) (λ l. let over = ltb-true highestTotal (n - 1) l in inr (omega arith)) (or-either (eqb n 0) (ltb highestTotal (n - 1)) h))
+outside-where n false true h = let over = ltb-true highestTotal (n + 1) h in inr (refl, omega arith)
+outside-where n false false h = absurd (true≢false (sym h))
+
+pub lowered-outside : (n : ℕ) (gained : Bool) → (n ≡ 0) ⊎ (highestTotal + 1 < n) → goesOutside n true gained ≡ true
+unfolding goesOutside pick
+lowered-outside n gained = ⊎-elim (λ e. or-first _ _ (eq-eqb n 0 e)) (λ l. or-second (eqb n 0) _ (lt-ltb highestTotal (n - 1) (omega arith)))
+
+pub raised-outside : (n : ℕ) → highestTotal ≤ n → goesOutside n false true ≡ true
+unfolding goesOutside pick
+raised-outside n l = lt-ltb highestTotal (n + 1) (omega arith)
+
 -- that stays inside where there is one to lose, or room for one more
 and-never : (x : Bool) {y : Bool} → (x ≡ true → y ≡ false) → (x && y) ≡ false
 and-never true f = f refl
@@ -131,6 +150,14 @@ module _ (each : List ℕ) (lost gained : ℕ) where
       go (yes b) before = or-first _ _ (before b)
       go (no d) before = let e : k ≡ m = omega arith in or-second (oneOutside each lost gained m) _ (rw e at h)
 
+  -- and there is one where one is found
+  outside-found : (m : ℕ) → oneOutside each lost gained m ≡ true → (k : ℕ) × ((k < m) × (Leaves k ≡ true))
+  unfolding oneOutside
+  outside-found zero h = absurd (true≢false (sym h))
+  outside-found (suc m) h =
+      ⊎-elim (λ before. let found = outside-found m before in (found .0, (omega (arith, found .1 .0), found .1 .1))) (λ here. (m, (omega arith, here)))
+      (or-either (oneOutside each lost gained m) (Leaves m) h)
+
   each-inside : (m : ℕ) → ((k : ℕ) → k < m → Leaves k ≡ false) → oneOutside each lost gained m ≡ false
   unfolding oneOutside
   each-inside zero f = refl
@@ -158,6 +185,14 @@ module _ (t : Totals) (lost gained : ℕ) where
   pub after-at : (k : ℕ) → k < kindCount → k < length (t .each) → totalOf (totalsAfter t lost gained) k ≡ totalAfter (totalOf t k) (has lost k) (has gained k)
   unfolding totalsAfter
   after-at k = moved-at (t .each) lost gained kindCount k
+
+  pub some-outside : anyOutside t lost gained ≡ true → (k : ℕ) × ((k < kindCount) × (goesOutside (totalOf t k) (has lost k) (has gained k) ≡ true))
+  unfolding anyOutside
+  some-outside = outside-found (t .each) lost gained kindCount
+
+  pub is-outside : (k : ℕ) → k < kindCount → goesOutside (totalOf t k) (has lost k) (has gained k) ≡ true → anyOutside t lost gained ≡ true
+  unfolding anyOutside
+  is-outside k l h = outside-at (t .each) lost gained kindCount k l h
 
   pub all-inside : ((k : ℕ) → k < kindCount → goesOutside (totalOf t k) (has lost k) (has gained k) ≡ false) → anyOutside t lost gained ≡ false
   unfolding anyOutside

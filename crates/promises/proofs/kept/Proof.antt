@@ -15,7 +15,7 @@ use Rattle.promises.proofs.Calls.{calls-are-events, rooms-are-events, c
 use Rattle.promises.proofs.Creation.{creation-is-sound}
 use Rattle.promises.proofs.Rows.{sound-over-rows, others-stay, row-refused-is-nothing, counts-follow}
 use Rattle.promises.proofs.Limits.{limit-is-mismatch, limits-decide, base-where-no-limit-binds, no-limit-binds-unset}
-use Rattle.promises.proofs.RowTotals.{own-refusals-first, own-unless-outside, totals-stay-equal, never-outside, totals-follow, recount-is-walk, recount-is-kept}
+use Rattle.promises.proofs.RowTotals.{own-refusals-first, own-unless-outside, outside-means, totals-stay-equal, never-outside, totals-follow, recount-is-walk, recount-is-kept}
 use Rattle.promises.proofs.RowCondition3.{row-condition-3}
 use Rattle.promises.proofs.RowCalls.{row-calls-are-events, row-calls-follow, row-calls-total, row-calls-condition-3}
 use Rattle.promises.proofs.RowRecords.{narrow-over-rows, row-is-run, row-records-follow}
@@ -85,6 +85,7 @@ returns c =
       no-limit-binds-unset = no-limit-binds-unset;
       own-refusals-first = own-refusals-first;
       own-unless-outside = own-unless-outside;
+      outside-means = outside-means;
       totals-stay-equal = totals-stay-equal;
       never-outside = never-outside;
       totals-follow = totals-follow;

@@ -1,6 +1,6 @@
 -- `totals::stepped` meets its contract: each return by the tests that led there. Assumes nothing.
 use Prim.Native.Nat.{_-_}
-use mathlib.Core.Path.{_≡_, refl, sym, ap, _∙_}
+use mathlib.Core.Path.{refl, sym, ap}
 use mathlib.Core.Bool.{Bool, true, false, _||_, true≢false}
 use lib.Dec.{ltb}
 use borrow.Author.Needs.{needs}

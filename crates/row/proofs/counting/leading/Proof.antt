@@ -1,6 +1,6 @@
 -- `row::leading` meets its contract: the loop's invariant: the first k of the counts. Assumes nothing.
 use Prim.Native.Nat.{_≤_, _-_}
-use mathlib.Core.Path.{_≡_, refl, sym, ap}
+use mathlib.Core.Path.{_≡_, refl}
 use native.Mathlib.Numerals.{add-one}
 use native.Mathlib.Omega.{arith}
 use Rattle.kinds.specs.Kinds.{kindCount}
