@@ -38,9 +38,9 @@ use Rattle.row.proofs.EventCases.{admits-own}
 use Rattle.totals.specs.declared.Totalled.{Totalled}
 use Rattle.totals.proofs.Laws.{totalled-by}
 use Rattle.row.proofs.Tallied.{capped-is}
+use Rattle.row.proofs.Found.{sound-at}
 use Rattle.row.proofs.HowMany.{how-many-lt}
 use Rattle.promises.specs.Rows.{TotalledRow, RowEvent, ownStep, rowStep, rowRun, opening, TurnedAway, LimitIsMismatch, FindsCommon, BelowLimit, LimitDecides, LimitsDecide, BaseWhereNoLimitBinds, NoLimitBindsUnset}
-use Rattle.promises.proofs.Rows.{sound-at}
 use Rattle.promises.proofs.RowTotals.{own-inside}
 
 -- ---- outcome 3

@@ -31,12 +31,13 @@ use Rattle.row.specs.declared.Limits.{Limits}
 use Rattle.row.specs.Limiting.{mostSessions, limitOf}
 use Rattle.row.specs.Events.{initializationNumber, eventOf}
 use Rattle.row.specs.Row.{sessionAt, uses, count, belowLimit, allSound, inRow, eventAt}
+use Rattle.row.proofs.Found.{sound-at}
 use Rattle.row.proofs.HowMany.{alike-but-one}
 use Rattle.promises.specs.Condition3.{NeverLess}
 use Rattle.promises.specs.Rows.{TotalledRow, RowEvent, ownStep, rowStep, rowThen, rowRun, EqualWalk}
 use Rattle.promises.specs.RowCondition3.{RowPair, StaysOpenAt, RowCondition3}
 use Rattle.promises.proofs.Condition3.{alike-less, members}
-use Rattle.promises.proofs.Rows.{at-set, others-stay, rows-length, sound-at, then-sound}
+use Rattle.promises.proofs.Rows.{at-set, others-stay, rows-length, then-sound}
 use Rattle.promises.proofs.RowTotals.{own-inside, totals-stay-equal}
 use Rattle.promises.proofs.Limits.{shut-uses}
 

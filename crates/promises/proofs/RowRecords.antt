@@ -25,11 +25,12 @@ use Rattle.record.specs.Loaded.{load, storeOctets}
 use Rattle.row.specs.Limiting.{mostSessions}
 use Rattle.row.specs.Row.{sessionAt, allSound, inRow, eventIn, eventAt}
 use Rattle.row.proofs.EventCases.{numbered-own}
+use Rattle.row.proofs.Found.{sound-at}
 use Rattle.promises.specs.Records.{recordRun, AllNumbered}
 use Rattle.promises.specs.Rows.{TotalledRow, RowEvent, ownStep, rowStep, rowThen, rowRun, EqualWalk}
 use Rattle.promises.specs.RowRecords.{RowNumbered, AllNarrow, NarrowOverRows, eventsOf, RowIsRun, RowRecordsFollow}
 use Rattle.promises.proofs.Records.{holds, run-holds, records-follow}
-use Rattle.promises.proofs.Rows.{at-set, others-stay, rows-length, sound-at, row-by, then-sound, outside-then}
+use Rattle.promises.proofs.Rows.{at-set, others-stay, rows-length, row-by, then-sound, outside-then}
 use Rattle.promises.proofs.RowTotals.{own-inside, totals-stay-equal}
 
 -- ---- the events of one session

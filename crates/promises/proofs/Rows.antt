@@ -32,6 +32,7 @@ use Rattle.totals.proofs.Laws.{Happens, totalled-by, totals-stay, totalled-stil
 use Rattle.row.specs.Limiting.{mostSessions}
 use Rattle.row.specs.Row.{sessionAt, uses, once, howMany, count, allSound, inRow, eventIn, eventAt, outside}
 use Rattle.row.proofs.Tallied.{refused-outside, room-stays}
+use Rattle.row.proofs.Found.{sound-at}
 use Rattle.row.proofs.HowMany.{how-many-set}
 use Rattle.promises.specs.Rows.{TotalledRow, RowEvent, ownStep, totalledStep, rowStep, rowThen, rowRun, SoundOverRows, OthersStay, RowRefusedIsNothing, gains, losses, gainedBy, lostBy, IsFresh, AllFresh, CountsFollow}
 
@@ -62,12 +63,6 @@ module _ (w : TotalledRow) (e : RowEvent) where
   outside-then past = then-same (ap (λ (a : Totalled). a .session) (outside-step past)) (ap (λ (a : Totalled). a .answer .totals) (outside-step past))
 
 -- ---- sound rows
-pub sound-at : (row : List Session) (at : ℕ) → allSound row ≡ true → at < length row → sound (sessionAt row at) ≡ true
-unfolding allSound
-sound-at [] at h l = absurd (omega arith)
-sound-at (s ∷ row) zero h l = and-first (sound s) (allSound row) h
-sound-at (s ∷ row) (suc at) h l = sound-at row at (and-second (sound s) (allSound row) h) (omega arith)
-
 sound-set : (row : List Session) (at : ℕ) (s : Session) → allSound row ≡ true → (at < length row → sound s ≡ true) → allSound (set row at s) ≡ true
 unfolding allSound
 sound-set [] at s h f = refl

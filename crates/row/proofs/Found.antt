@@ -43,15 +43,15 @@ unfolding surveyed
 surveyed-all of row all = pick-true _ _ ∙ ap (λ (l : List Session). tallied of emptyTally l .counts) (leading-all row all)
 
 -- and then each of them is
-sound-at : (row : List Session) (at : ℕ) → at < length row → allSound row ≡ true → sound (sessionAt row at) ≡ true
+pub sound-at : (row : List Session) (at : ℕ) → allSound row ≡ true → at < length row → sound (sessionAt row at) ≡ true
 unfolding allSound
-sound-at [] at l all = absurd (omega arith)
-sound-at (s ∷ row) zero l all = and-first (sound s) (allSound row) all
-sound-at (s ∷ row) (suc at) l all = sound-at row at (omega arith) (and-second (sound s) (allSound row) all)
+sound-at [] at all l = absurd (omega arith)
+sound-at (s ∷ row) zero all l = and-first (sound s) (allSound row) all
+sound-at (s ∷ row) (suc at) all l = sound-at row at (and-second (sound s) (allSound row) all) (omega arith)
 
 pub sound-found : (row : List Session) (at : ℕ) (counting : Bool) (of : Session → ℕ) → inRow row at ≡ true → surveyed counting of row .sound ≡ true → sound (sessionAt row at) ≡ true
 unfolding surveyed
-sound-found row at counting of inside = sound-at row at (ltb-true at (length row) (and-first (ltb at (length row)) _ inside))
+sound-found row at counting of inside all = sound-at row at all (ltb-true at (length row) (and-first (ltb at (length row)) _ inside))
 
 -- ---- by what the pass found
 module _ (row : List Session) (at : ℕ) (e : EventNumbers) (l : Limits) (area : List ℕ) where
