@@ -2,4 +2,5 @@ pub mod Table
 pub mod Turned
 pub mod Gathered
 pub mod ByKind
+pub mod Capable
 pub mod Examples

@@ -1,5 +1,5 @@
--- Applications and kinds, as document 01 has them. "A targeted application and a SAC application are numbered separately": in a set each stands
--- at the place one below its number, a kind at its own. Assumes nothing.
+-- Applications and kinds, as document 01 has them, and the capabilities that kinds need. "A targeted application and a SAC application are numbered
+-- separately": in a set each stands at the place one below its number, and so does a capability; a kind stands at its own. Assumes nothing.
 use Prim.Native.Nat.{ℕ, zero, suc, _+_, _-_, _^_, _≤_}
 use mathlib.Core.Path.{_≡_}
 use mathlib.Core.Bool.{Bool, true}
@@ -7,7 +7,7 @@ use mathlib.Core.List.{List, [], _∷_}
 use lib.ListN.{getD}
 use lib.Dec.{eqb}
 use Rattle.choice.specs.Pick.{pick}
-use Rattle.sets.specs.Set.{has, union, with, numbered, holds}
+use Rattle.sets.specs.Set.{has, union, minus, with, numbered, holds}
 
 -- TA-Ids 1 to 13, kinds 0 to 9, SAC Apps 1 to 4
 abbrev pub applicationCount : ℕ
@@ -25,6 +25,22 @@ allApplications = 2 ^ applicationCount - 1
 
 abbrev pub allKinds : ℕ
 allKinds = 2 ^ kindCount - 1
+
+-- the capabilities that kinds need, numbered by their places in a set: "P2MP bit 0, MP2MP bit 1, HSMP bit 2"
+abbrev pub p2mp : ℕ
+p2mp = 1
+
+abbrev pub mp2mp : ℕ
+mp2mp = 2
+
+abbrev pub hsmp : ℕ
+hsmp = 3
+
+abbrev pub capabilityCount : ℕ
+capabilityCount = 3
+
+abbrev pub allCapabilities : ℕ
+allCapabilities = 2 ^ capabilityCount - 1
 
 -- "any other TA-Id, 0 included, is unknown"
 abbrev pub knownApplication : ℕ → Bool
@@ -64,6 +80,10 @@ opensTable =
 abbrev pub controlsTable : List (List ℕ)
 controlsTable = (0 ∷ []) ∷ (1 ∷ []) ∷ (7 ∷ []) ∷ (8 ∷ []) ∷ []
 
+-- "kind 2 needs P2MP, kinds 3 and 4 need MP2MP, kinds 5 and 6 need HSMP": the kinds that need each, from P2MP on
+abbrev pub neededTable : List (List ℕ)
+neededTable = (2 ∷ []) ∷ (3 ∷ 4 ∷ []) ∷ (5 ∷ 6 ∷ []) ∷ []
+
 -- these kinds as a set
 unfoldable pub setOf : List ℕ → ℕ
 setOf [] = 0
@@ -77,6 +97,10 @@ opens protects n =
 -- the kinds that the App n controls; "App 0 and 5 to 7 are skipped"
 unfoldable pub controlled : ℕ → ℕ
 controlled n = pick (knownApp n) (setOf (getD controlsTable (n - 1) [])) 0
+
+-- the kinds that need the capability n
+unfoldable pub needed : ℕ → ℕ
+needed n = pick (numbered capabilityCount n) (setOf (getD neededTable (n - 1) [])) 0
 
 -- the kinds that the number at place i of a set stands for, where it is in the set; and those of the numbers 1 to w together
 abbrev pub member : (ℕ → ℕ) → ℕ → ℕ → ℕ
@@ -93,6 +117,10 @@ opened protects applications = gather (opens protects) applicationCount applicat
 -- the kinds that a set of Apps disables
 unfoldable pub disables : ℕ → ℕ
 disables apps = gather controlled appCount apps
+
+-- the kinds that a set of capabilities bars: they need one that is not in it
+unfoldable pub barred : ℕ → ℕ
+barred held = gather needed capabilityCount (minus allCapabilities held)
 
 -- a number of 1 to w in the set, that stands for the kind k
 pub record Some (kindsOf : ℕ → ℕ) (w s k : ℕ) : Type 0 where

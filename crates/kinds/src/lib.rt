@@ -1,8 +1,8 @@
-// Applications and kinds: the kinds that targeted applications open, and those that SAC Apps control.
+// Applications and kinds: the kinds that targeted applications open, those that SAC Apps control, and those that need a capability.
 ghost use mathlib.Core.Path.{_≡_};
 ghost use lib.ListN.{getD};
-ghost use Rattle.sets.specs.Set.{has, holds, switched};
-ghost use Rattle.kinds.specs.Kinds.{applicationCount, appCount, knownApplication, isIn, knownApp, opened, disables};
+ghost use Rattle.sets.specs.Set.{has, minus, holds, switched};
+ghost use Rattle.kinds.specs.Kinds.{applicationCount, appCount, knownApplication, isIn, knownApp, capabilityCount, allCapabilities, opened, disables, barred};
 ghost use Rattle.kinds.specs.ByKind.{openers, kindsBy};
 
 // A targeted application by its number, as TAC has it.
@@ -11,12 +11,15 @@ pub struct TaId(pub u32);
 // A SAC application by its number. The same number means another thing than in a TaId.
 pub struct SacApp(pub u32);
 
+// A capability that kinds need, by its number: 1 P2MP, 2 MP2MP, 3 HSMP.
+pub struct Capability(pub u32);
+
 // How many kinds there are, and the set of all of them, kind k at bit k.
 pub const KIND_COUNT: u32 = 10;
 
 pub const ALL_KINDS: u16 = (1 << KIND_COUNT) - 1;
 
-// A table has a set of applications or of Apps for each kind, from kind 0 on. In it the number n stands at bit n - 1.
+// A table has a set of applications, of Apps or of capabilities for each kind, from kind 0 on. In it the number n stands at bit n - 1.
 const KINDS: usize = KIND_COUNT as usize;
 
 // 1 LDPv4 Tunneling, 4 LDPv4 Remote LFA, 12 IPv4 intra-area FECs.
@@ -44,6 +47,20 @@ const OPENERS: [u16; KINDS] = [
 
 // The Apps that control each kind: App 1 kind 0, 2 kind 1, 3 kind 7, 4 kind 8.
 const CONTROLLERS: [u16; KINDS] = [1 << 0, 1 << 1, 0, 0, 0, 0, 0, 1 << 2, 1 << 3, 0];
+
+// The capabilities that each kind needs: kind 2 P2MP, kinds 3 and 4 MP2MP, kinds 5 and 6 HSMP.
+const NEEDS: [u16; KINDS] = [
+    0,
+    0,
+    1 << (Capability::P2MP - 1),
+    1 << (Capability::MP2MP - 1),
+    1 << (Capability::MP2MP - 1),
+    1 << (Capability::HSMP - 1),
+    1 << (Capability::HSMP - 1),
+    0,
+    0,
+    0,
+];
 
 impl TaId {
     pub const COUNT: u32 = 13;
@@ -98,6 +115,33 @@ impl SacApp {
         ensures { λ r. ⌜ r ≡ switched appCount apps (self .0) on ⌝ }
     {
         sets::switched(Self::COUNT, apps as u16, self.0, on) as u8
+    }
+}
+
+impl Capability {
+    pub const P2MP: u32 = 1;
+
+    pub const MP2MP: u32 = 2;
+
+    pub const HSMP: u32 = 3;
+
+    pub const COUNT: u32 = 3;
+
+    // The set of all of them, capability n at bit n - 1.
+    const ALL: u16 = (1 << Self::COUNT) - 1;
+
+    // Whether the capability is in the set.
+    pub fn is_in(self, capabilities: u8) -> bool
+        ensures { λ r. ⌜ r ≡ holds capabilityCount capabilities (self .0) ⌝ }
+    {
+        sets::holds(Self::COUNT, capabilities as u16, self.0)
+    }
+
+    // The set of capabilities with this one switched on or off.
+    pub fn switched(self, capabilities: u8, on: bool) -> u8
+        ensures { λ r. ⌜ r ≡ switched capabilityCount capabilities (self .0) on ⌝ }
+    {
+        sets::switched(Self::COUNT, capabilities as u16, self.0, on) as u8
     }
 }
 
@@ -165,4 +209,25 @@ pub fn disables(apps: u8) -> u16
     ensures { λ r. ⌜ r ≡ disables apps ⌝ }
 {
     kinds_by(CONTROLLERS, apps as u16)
+}
+
+// The capabilities that are not held.
+fn lacked(held: u8) -> u16
+    ensures { λ r. ⌜ r ≡ minus allCapabilities held ⌝ }
+{
+    sets::minus(Capability::ALL, held as u16)
+}
+
+// Whether this one kind needs a capability that is not held.
+pub fn bars_kind(held: u8, kind: u16) -> bool
+    ensures { λ r. ⌜ r ≡ has (barred held) kind ⌝ }
+{
+    sets::meets(lacked(held), at(NEEDS, kind))
+}
+
+// The kinds that need a capability that is not held.
+pub fn barred(held: u8) -> u16
+    ensures { λ r. ⌜ r ≡ barred held ⌝ }
+{
+    kinds_by(NEEDS, lacked(held))
 }
