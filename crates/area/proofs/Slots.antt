@@ -17,7 +17,7 @@ use Rattle.area.specs.declared.Reading.{Reading}
 use Rattle.area.specs.Found.{none, nothingFound}
 use Rattle.area.specs.Area.{areaMost, headLength, typeOf, tacType, sacType, takeTlv, passOther, byType, readArea, part}
 use Rattle.area.specs.Tlvs.{Tlv, tlvHead, tlvOctets, areaOf, readTlv, readTlvs, Wide, Without}
-use Rattle.area.proofs.Tlvs.{read-by-tlvs}
+use Rattle.area.proofs.Tlvs.{value-at, read-by-tlvs}
 
 -- ---- one TLV
 -- what is not refused has this SAC
@@ -29,16 +29,19 @@ unfolding takeTlv
 taking s again wrong found is =
     by-test (Has s) (λ _ e. absurd (omega arith)) (λ _. by-test (Has s) (λ _ e. absurd (omega arith)) (λ _ _. is))
 
-by-other : (head : ℕ) (value : Span) (r : Reading) → (typeOf head ≡ sacType → ⊥) → Has (r .sac) (byType head value r)
+by-other : (head : ℕ) (value : Span) (s : Bool) (r : Reading) → (typeOf head ≡ sacType → ⊥) → Has (r .sac) (byType head value s r)
 unfolding byType passOther
-by-other head value r other =
+by-other head value s r other =
     by-test (Has (r .sac)) (λ _. taking (r .sac) _ _ _ refl)
     (λ _. by-test (Has (r .sac)) (λ q. absurd (other (eqb-true (typeOf head) sacType q)))
-    (λ _. by-test (Has (r .sac)) (λ _. taking (r .sac) _ _ _ refl) (λ _. by-test (Has (r .sac)) (λ _ _. refl) (λ _ e. absurd (omega arith)))))
+    (λ _. by-test (Has (r .sac)) (λ _. taking (r .sac) _ _ _ refl)
+    (λ _. by-test (Has (r .sac)) (λ _. taking (r .sac) _ _ _ refl)
+    (λ _. by-test (Has (r .sac)) (λ _. taking (r .sac) _ _ _ refl)
+    (λ _. by-test (Has (r .sac)) (λ _. taking (r .sac) _ _ _ refl) (λ _. by-test (Has (r .sac)) (λ _ _. refl) (λ _ e. absurd (omega arith))))))))
 
-by-sac : (head : ℕ) (value : Span) (r : Reading) → typeOf head ≡ sacType → Has value (byType head value r)
+by-sac : (head : ℕ) (value : Span) (s : Bool) (r : Reading) → typeOf head ≡ sacType → Has value (byType head value s r)
 unfolding byType
-by-sac head value r is =
+by-sac head value s r is =
     subst (Has value) (sym (left _ _ (ap (λ (n : ℕ). eqb n tacType) is) ∙ taken _ _ (eq-eqb _ _ is))) (taking value _ _ _ refl)
 
 -- ---- TLVs one after another
@@ -51,7 +54,7 @@ no-sac : (ts : List Tlv) (at : ℕ) (r : Reading) → Without sacType ts → Has
 no-sac [] at r w = λ _. refl
 no-sac (t ∷ ts) at r w =
     going-on (r .sac) (readTlv at r t) _
-    (λ ok e. no-sac ts (at + headLength + length (t .value)) (readTlv at r t) (w .1) e ∙ by-other (t .head) _ r (w .0) ok)
+    (λ ok e. no-sac ts (at + headLength + length (t .value)) (readTlv at r t) (w .1) e ∙ by-other (t .head) _ _ r (w .0) ok)
 
 -- the part where the value of a TLV stands behind others
 abbrev pub behind : ℕ → List Tlv → Tlv → Span
@@ -61,7 +64,7 @@ one-sac : (before : List Tlv) (t : Tlv) (rest : List Tlv) (at : ℕ) (r : Readin
     → Has (behind at before t) (readTlvs at r (before ++ (t ∷ rest)))
 one-sac [] t rest at r w is v =
     going-on (behind at [] t) (readTlv at r t) _
-    (λ ok e. no-sac rest (at + headLength + length (t .value)) (readTlv at r t) v e ∙ by-sac (t .head) _ r is ok ∙ ap (λ (n : ℕ). record { start = n; len = length (t .value) }) (omega arith))
+    (λ ok e. no-sac rest (at + headLength + length (t .value)) (readTlv at r t) v e ∙ by-sac (t .head) _ _ r is ok ∙ ap (λ (n : ℕ). record { start = n; len = length (t .value) }) (omega arith))
 one-sac (b ∷ before) t rest at r w is v =
     going-on (behind at (b ∷ before) t) (readTlv at r b) _
     (λ ok e. one-sac before t rest (at + headLength + length (b .value)) (readTlv at r b) (w .1) is v e ∙ ap (λ (n : ℕ). record { start = n; len = length (t .value) }) place)
@@ -75,12 +78,10 @@ area-append [] us = refl
 area-append (t ∷ ts) us = ap (λ (l : List ℕ). tlvOctets t ++ l) (area-append ts us) ∙ sym (append-assoc (tlvOctets t) (areaOf ts) (areaOf us))
 
 value-of : (before : List Tlv) (t : Tlv) (rest : List Tlv) → part (areaOf (before ++ (t ∷ rest))) (behind 0 before t) ≡ t .value
-unfolding part
 value-of before t rest =
     let start : 0 + length (areaOf before) + headLength ≡ length (areaOf before) + headLength = omega arith in
-    ap₂ (λ (n : ℕ) (l : List ℕ). take (length (t .value)) (drop n l)) start (area-append before (t ∷ rest))
-    ∙ ap (take (length (t .value))) (drop-append-add (areaOf before) (areaOf (t ∷ rest)) headLength)
-    ∙ take-append-seam (t .value) (areaOf rest)
+    ap₂ (λ (n : ℕ) (l : List ℕ). part l (record { start = n; len = length (t .value) })) start (area-append before (t ∷ rest))
+    ∙ value-at (areaOf before) t (areaOf rest)
 
 -- ---- what is read from an area
 -- one that is not refused is not too long

@@ -5,16 +5,17 @@ use mathlib.Core.Path.{_≡_, refl, sym, ap, ap₂, _∙_}
 use mathlib.Core.List.{List, [], _∷_, _++_, append-assoc}
 use native.Mathlib.Omega.{arith}
 use lib.Dec.{eqb}
-use lib.ListN.{length, getD, length-append}
-use lib.Seq.{getD-append-add}
+use lib.ListN.{length, getD, take, length-append}
+use lib.Seq.{getD-append-add, take-append-seam, drop-append-add}
 use borrow.Author.Tests.{le-ltb, lt-leb}
 use Rattle.choice.specs.Pick.{pick}
 use Rattle.choice.proofs.Branch.{left}
 use Rattle.octets.proofs.Numbers.{forth16}
 use Rattle.refusals.specs.Refusals.{notRefused}
+use Rattle.area.specs.declared.Span.{Span}
 use Rattle.area.specs.declared.Reading.{Reading}
 use Rattle.area.specs.Found.{nothingFound}
-use Rattle.area.specs.Area.{areaMost, headLength, at16, byType, tlvAt, nextAt, readFrom, readArea}
+use Rattle.area.specs.Area.{areaMost, headLength, at16, byType, part, sBit, tlvAt, nextAt, readFrom, readArea}
 use Rattle.area.proofs.Turn.{done}
 use Rattle.area.specs.Tlvs.{Tlv, tlvOctets, areaOf, readTlv, readTlvs, Wide, ReadByTlvs}
 
@@ -25,6 +26,12 @@ behind pre l i =
     let next : length pre + i + 1 ≡ length pre + (i + 1) = omega arith in
     ap₂ (λ (x y : ℕ). x * 256 + y) (getD-append-add pre l i 0)
     (ap (λ (j : ℕ). getD (pre ++ l) j 0) next ∙ getD-append-add pre l (i + 1) 0)
+
+-- a TLV's value that stands behind what is before it
+pub value-at : (pre : List ℕ) (t : Tlv) (rest : List ℕ)
+    → part (pre ++ (tlvOctets t ++ rest)) (record { start = length pre + headLength; len = length (t .value) }) ≡ t .value
+unfolding part
+value-at pre t rest = ap (take (length (t .value))) (drop-append-add pre (tlvOctets t ++ rest) headLength) ∙ take-append-seam (t .value) rest
 
 module _ (pre : List ℕ) (t : Tlv) (rest : List ℕ) (wide : t .head < 65536) (long : length (t .value) < 65536) where
   abbrev area : List ℕ
@@ -50,7 +57,11 @@ module _ (pre : List ℕ) (t : Tlv) (rest : List ℕ) (wide : t .head < 65536) (
       let m = length-at in
       left _ _ (le-ltb (length area - length pre) headLength (omega arith))
       ∙ left _ _ (le-ltb (length area - length pre - headLength) (at16 area (length pre + 2)) (omega arith))
-      ∙ ap₂ (λ (x y : ℕ). byType x (record { start = length pre + headLength; len = y }) r) head-at length-at
+      ∙ ap₂ (λ (x y : ℕ). byType x (found y) (sBit (part area (found y))) r) head-at length-at
+      ∙ ap (λ (v : List ℕ). byType (t .head) (found (length (t .value))) (sBit v) r) (value-at pre t rest)
+    where
+      found : ℕ → Span
+      found long = record { start = length pre + headLength; len = long }
 
   next-at : nextAt area (length pre) ≡ length pre + headLength + length (t .value)
   next-at = ap (λ (n : ℕ). length pre + headLength + n) length-at

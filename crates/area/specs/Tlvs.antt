@@ -9,7 +9,7 @@ use Rattle.refusals.specs.Refusals.{notRefused}
 use Rattle.octets.specs.Octets.{be16}
 use Rattle.area.specs.declared.Reading.{Reading}
 use Rattle.area.specs.Found.{nothingFound}
-use Rattle.area.specs.Area.{areaMost, headLength, uBit, typeOf, byType, readArea}
+use Rattle.area.specs.Area.{areaMost, headLength, uBit, typeOf, byType, sBit, readArea}
 
 -- a TLV: its first 16 bits, and its value
 pub record Tlv : Type 0 where
@@ -34,7 +34,7 @@ areaOf (t ∷ ts) = tlvOctets t ++ areaOf ts
 
 -- the reading of one at `at`, after r was found; and of these from there on: the first refusal is the answer
 abbrev pub readTlv : ℕ → Reading → Tlv → Reading
-readTlv at r t = byType (t .head) (record { start = at + headLength; len = length (t .value) }) r
+readTlv at r t = byType (t .head) (record { start = at + headLength; len = length (t .value) }) (sBit (t .value)) r
 
 abbrev pub readTlvs : ℕ → Reading → List Tlv → Reading
 readTlvs at r [] = r

@@ -2,8 +2,9 @@
 ghost use mathlib.Core.Path.{_≡_};
 ghost use Prim.Native.Nat.{_+_, _≤_, _<_};
 ghost use lib.ListN.{length};
-ghost use Rattle.area.specs.Found.{refused};
-ghost use Rattle.area.specs.Area.{areaMost, at16, takeTlv, passOther, byType, tlvAt, readArea, part};
+ghost use Rattle.area.specs.Found.{refused, capabilityStood, withCapability};
+ghost use Rattle.area.specs.Area.{areaMost, at16, notOne, takeTlv, passOther, byType, tlvAt, readArea, part, sBit};
+use kinds::Capability;
 
 // A part of an area: where it starts, and how many octets it has.
 #[repr(C)]
@@ -12,11 +13,14 @@ pub struct Span {
     pub len: u16,
 }
 
-// What was found in an area. A TAC has one octet at the least and a SAC two, so a part without octets is an absent one.
+// What was found in an area. A TAC has one octet at the least and a SAC two, so a part without octets is an absent one. Of the capabilities, those
+// that are present, and of these the ones with S = 1.
 #[repr(C)]
 pub struct Reading {
     pub refusal: u8,
     pub dynamic: bool,
+    pub capabilities: u8,
+    pub holding: u8,
     pub tac: Span,
     pub sac: Span,
 }
@@ -41,6 +45,12 @@ pub const SAC: usize = 0x050D;
 
 const DYNAMIC: usize = 0x0506;
 
+const P2MP: usize = 0x0508;
+
+const MP2MP: usize = 0x0509;
+
+const HSMP: usize = 0x0902;
+
 // Of the other types those that are passed over whatever their U.
 const PASSED_FIRST: usize = 0x0500;
 
@@ -53,6 +63,8 @@ fn refuse(n: u8) -> Reading
     Reading {
         refusal: n,
         dynamic: false,
+        capabilities: 0,
+        holding: 0,
         tac: Span { start: 0, len: 0 },
         sac: Span { start: 0, len: 0 },
     }
@@ -83,13 +95,40 @@ fn pass_other(head: usize, r: Reading) -> Reading
     refuse(refusals::UNKNOWN_TYPE)
 }
 
+// S of a value; a value without octets has none.
+pub fn s_bit(value: &[u8]) -> bool
+    ensures { λ r. ⌜ r ≡ sBit (now (value .entry)) ⌝ }
+{
+    if value.len() == 0 {
+        return false;
+    }
+    octets::TOP_BIT <= value[0]
+}
+
+// A capability: present, and held with S = 1.
+fn take_capability(capability: Capability, area: &[u8], value: Span, mut r: Reading) -> Reading
+    requires { ⌜ value .start + value .len ≤ length (now area) ⌝ }
+    ensures { λ s. ⌜ s ≡ takeTlv (capabilityStood (capability .0) r) (notOne (value .len)) (withCapability (capability .0) value (sBit (part (now (area .entry)) value)) r) ⌝ }
+{
+    let again = capability.is_in(r.capabilities);
+    let s = s_bit(part_within(area, value));
+    r.refusal = refusals::NOT_REFUSED;
+    r.capabilities = capability.switched(r.capabilities, true);
+    r.holding = capability.switched(r.holding, s);
+    take_tlv(again, value.len != 1, r)
+}
+
 // A whole TLV, by its type. One of ours is put into what was found.
-fn by_type(head: usize, value: Span, mut r: Reading) -> Reading
-    ensures { λ s. ⌜ s ≡ byType head value r ⌝ }
+fn by_type(area: &[u8], head: usize, value: Span, mut r: Reading) -> Reading
+    requires { ⌜ value .start + value .len ≤ length (now area) ⌝ }
+    ensures { λ s. ⌜ s ≡ byType head value (sBit (part (now (area .entry)) value)) r ⌝ }
 {
     let t = head % TYPE_COUNT;
-    // None of ours lies outside the range: those are not compared with each of them.
+    // Of ours HSMP alone lies outside the range: what else does is not compared with each of them.
     if (t < PASSED_FIRST) | (PASSED_LAST < t) {
+        if t == HSMP {
+            return take_capability(Capability(Capability::HSMP), area, value, r);
+        }
         return pass_other(head, r);
     }
     let len = value.len as usize;
@@ -110,6 +149,12 @@ fn by_type(head: usize, value: Span, mut r: Reading) -> Reading
         r.refusal = refusals::NOT_REFUSED;
         r.dynamic = true;
         return take_tlv(again, len != 1, r);
+    }
+    if t == P2MP {
+        return take_capability(Capability(Capability::P2MP), area, value, r);
+    }
+    if t == MP2MP {
+        return take_capability(Capability(Capability::MP2MP), area, value, r);
     }
     pass_other(head, r)
 }
@@ -153,7 +198,7 @@ fn tlv_at(a: &[u8], at: usize, r: Reading) -> Reading
     if rest - HEAD_LENGTH < len {
         return refuse(refusals::CUT_SHORT);
     }
-    by_type(at16(a, at), part_at(at + HEAD_LENGTH, len), r)
+    by_type(a, at16(a, at), part_at(at + HEAD_LENGTH, len), r)
 }
 
 // What reading the whole area finds. One walk serves Initialization and Capability messages.

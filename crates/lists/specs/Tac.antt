@@ -12,10 +12,6 @@ use Rattle.kinds.specs.Kinds.{applicationCount}
 use Rattle.octets.specs.Octets.{hasTopBit}
 use Rattle.area.specs.Area.{elementLength, at16}
 
--- S, "its top bit" of the first octet
-unfoldable pub sBit : List ℕ → Bool
-sBit v = hasTopBit (getD v 0 0)
-
 -- how many elements there are
 abbrev pub elementCount : List ℕ → ℕ
 elementCount v = (length v - 1) / elementLength

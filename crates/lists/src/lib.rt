@@ -3,19 +3,9 @@ ghost use mathlib.Core.Path.{_≡_};
 ghost use Prim.Native.Nat.{_<_};
 ghost use Rattle.lists.specs.Met.{tacElement};
 ghost use Rattle.lists.specs.Sac.{sacElement, sacList};
-ghost use Rattle.lists.specs.Tac.{sBit, elementCount, idAt, adds, tacList};
+ghost use Rattle.lists.specs.Tac.{elementCount, idAt, adds, tacList};
 use kinds::SacApp;
 use kinds::TaId;
-
-// S of a TAC's value; a value without octets has none.
-pub fn s_bit(value: &[u8]) -> bool
-    ensures { λ r. ⌜ r ≡ sBit (now (value .entry)) ⌝ }
-{
-    if value.len() == 0 {
-        return false;
-    }
-    octets::TOP_BIT <= value[0]
-}
 
 // How many elements a TAC has.
 fn element_count(value: &[u8]) -> usize

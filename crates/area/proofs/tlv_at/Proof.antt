@@ -1,5 +1,6 @@
 -- `area::tlv_at` meets its contract: each return by the tests that led there. Assumes nothing.
 use mathlib.Core.Path.{_∙_, sym}
+use native.Mathlib.Omega.{arith}
 use borrow.Author.Tests.{lt-ltb, le-ltb}
 use Rattle.choice.proofs.Branch.{taken, left}
 use Rattle.area.specs.Area.{tlvAt}
@@ -17,6 +18,9 @@ returns-2 c =
     let len = c .before .before .at16 .ensures .0 in
     c .refuse2 .ensures ∙ sym (left _ _ (le-ltb _ _ (c .before .before .before .if1 .left)) ∙ taken _ _ (lt-ltb _ _ (rw len at (c .before .if2 .taken))))
 
+by-type-requires : tie.Need-by-type-requires
+by-type-requires c κs = rw (c .part-at .ensures) (omega (arith, c .before .before .if2 .left, c .before .before .before .before .if1 .left))
+
 returns-3 : tie.Need-returns-3
 unfolding tlvAt
 returns-3 c =
@@ -31,4 +35,4 @@ tlv-at-spec =
     (tie.spec
     (λ c. search needs) (λ c κs. search needs) returns
     (λ c. search needs) (λ c κs. search needs) (λ c κs. search needs) returns-2
-    (λ c κs. search needs) (λ c. search needs) (λ c κs. search needs) (λ c κs. search needs) returns-3)
+    (λ c κs. search needs) (λ c. search needs) (λ c κs. search needs) by-type-requires returns-3)

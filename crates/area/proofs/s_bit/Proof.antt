@@ -1,14 +1,14 @@
--- `lists::s_bit` meets its contract. Assumes nothing.
+-- `area::s_bit` meets its contract. Assumes nothing.
 use mathlib.Core.Path.{_≡_, refl}
 use mathlib.Core.Bool.{false}
 use native.Mathlib.Omega.{arith}
 use Prim.Native.Nat.{ℕ}
 use mathlib.Core.List.{List, [], _∷_}
 use lib.ListN.{length}
-use Rattle.lists.specs.Tac.{sBit}
+use Rattle.area.specs.Area.{sBit}
 use borrow.Author.Needs.{needs}
-use Rattle.lists.proofs.s_bit.Statement.{statement}
-use Rattle.lists.proofs.s_bit.Tie as tie
+use Rattle.area.proofs.s_bit.Statement.{statement}
+use Rattle.area.proofs.s_bit.Tie as tie
 
 -- a value without octets has no S
 none : (v : List ℕ) → length v ≡ 0 → false ≡ sBit v
