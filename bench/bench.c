@@ -44,28 +44,44 @@ struct area {
 
 static struct area frr = {15, {0x85, 0x06, 0, 1, 0x80, 0x85, 0x0B, 0, 1, 0x80, 0x86, 0x03, 0, 1, 0x80}};
 
-/* Dynamic, P2MP, MP2MP, Typed Wildcard, SAC of App 3, TAC of 4 and 7. */
+/* Dynamic, P2MP, MP2MP, Typed Wildcard, SAC of App 3, TAC of 4 and 7: all but one count. */
 static struct area six = {39, {0x85, 0x06, 0, 1, 0x80, 0x85, 0x08, 0, 1, 0x80, 0x85, 0x09, 0,
                                1, 0x80, 0x85, 0x0B, 0, 1, 0x80, 0x85, 0x0D, 0, 2, 0x80, 0xB0,
                                0x85, 0x0F, 0, 9, 0x80, 0, 4, 0x80, 0, 0, 7, 0x80, 0}};
 
-/* A TAC with S = 0, and a SAC that disables App 1: kind 0 is lost, 1 to 6 and 9 are gained. */
-static struct area withdrawn = {11, {0x85, 0x0F, 0, 1, 0, 0x85, 0x0D, 0, 2, 0x80, 0x90}};
+/* FRR's parameters, then P2MP, MP2MP and HSMP: with these all ten kinds are gained. */
+static struct area ten = {30, {0x85, 0x06, 0, 1, 0x80, 0x85, 0x0B, 0, 1, 0x80,
+                               0x86, 0x03, 0, 1, 0x80, 0x85, 0x08, 0, 1, 0x80,
+                               0x85, 0x09, 0, 1, 0x80, 0x89, 0x02, 0, 1, 0x80}};
+
+/* P2MP, MP2MP and HSMP with S = 0: kinds 2 to 6 are lost. */
+static struct area no_mldp = {15, {0x85, 0x08, 0, 1, 0, 0x85, 0x09, 0, 1, 0, 0x89, 0x02, 0, 1, 0}};
+
+/*
+ * A TAC with S = 0, a SAC that disables App 1, and HSMP, which the six TLVs lack: kind 0 is
+ * lost, 1 to 6 and 9 are gained.
+ */
+static struct area withdrawn = {16, {0x85, 0x0F, 0, 1, 0, 0x85, 0x0D, 0, 2, 0x80, 0x90,
+                                     0x89, 0x02, 0, 1, 0x80}};
 
 /* A TAC alone: by how many elements it has, and by what they name. */
 static struct area elements_250, elements_500, elements_1000, unknown_1000, repeated_1000;
 
 static struct area thousand_tlvs, none;
 
-static uint8_t ready[TACIT_RECORD_LENGTH], opened[TACIT_RECORD_LENGTH];
+static uint8_t ready[TACIT_RECORD_LENGTH], opened[TACIT_RECORD_LENGTH], all[TACIT_RECORD_LENGTH];
 static uint8_t record[TACIT_RECORD_LENGTH], room[TACIT_MESSAGE_LENGTH];
 
 /* Of the row a part is lent. 4 may be used by two of its sessions, 7 by all. */
 static struct tacit_session sessions[TACIT_ROW_MOST];
 static struct tacit_limits limits;
 
-static const struct tacit_settings settings = {
-    .initiating = true, .active = true, .uses_tac = true, .enabled = 0x48, .first_number = 1};
+static const struct tacit_settings settings = {.initiating = true,
+                                               .active = true,
+                                               .uses_tac = true,
+                                               .enabled = 0x48,
+                                               .first_number = 1,
+                                               .capabilities = TACIT_ALL_CAPABILITIES};
 
 /* A TAC of so many elements, whose TA-Ids are those from `first` to `last`, again and again. */
 static void prepare_tac(struct area *area, unsigned elements, unsigned first, unsigned last)
@@ -93,10 +109,15 @@ static void prepare_all(void)
     for (unsigned i = 0; i < 1000; i++, next += 4)
         memcpy(next, (const uint8_t[]){0x86, 0, 0, 0}, 4);
     thousand_tlvs.length = (size_t)(next - thousand_tlvs.octets);
-    /* Sessions that enable 4 and 7, one of them opened by the six TLVs. */
+    /*
+     * Sessions that enable 4 and 7 and hold all three capabilities: one opened by the six
+     * TLVs, one that permits all ten kinds.
+     */
     tacit_create(ready, sizeof ready, settings);
     memcpy(opened, ready, sizeof opened);
     tacit_initialization(opened, sizeof opened, six.octets, six.length);
+    memcpy(all, ready, sizeof all);
+    tacit_initialization(all, sizeof all, ten.octets, ten.length);
     limits = tacit_set_limit(tacit_no_limits(), 4, 2).limits;
 }
 
@@ -144,6 +165,8 @@ static const struct row rows[] = {
     {"cap-frr", "Capability, FRR's parameters (15 octets)", 10000, opened, &frr,
      {.call = CAPABILITY}},
     {"cap-six", "Capability, six capability TLVs", 10000, opened, &six, {.call = CAPABILITY}},
+    {"cap-mldp", "Capability, P2MP, MP2MP and HSMP withdrawn", 10000, all, &no_mldp,
+     {.call = CAPABILITY}},
     {"cap-250", "Capability, TAC of 250 elements", 500, opened, &elements_250,
      {.call = CAPABILITY}},
     {"cap-500", "Capability, TAC of 500 elements", 500, opened, &elements_500,
@@ -166,6 +189,8 @@ static const struct row rows[] = {
     {"kinds", "permitted, all kinds", 10000, opened, &none, {.call = PERMITTED_KINDS}},
     {"why-not", "why not, a permitted kind", 10000, opened, &none,
      {.call = WHY_NOT, .kind = TACIT_KIND_GENERALIZED_PWID}},
+    {"why-mldp", "why not, a permitted kind that needs a capability", 10000, all, &none,
+     {.call = WHY_NOT, .kind = TACIT_KIND_HSMP_UPSTREAM}},
     {"wish", "wish, 14 octets written", 10000, opened, &none,
      {.call = WISH, .app = TACIT_SAC_IPV4_PREFIX, .disable = true}},
     {"wish-sac-2", "SAC for an Initialization, two wishes", 10000, ready, &none,
@@ -184,7 +209,7 @@ static const struct row rows[] = {
      {.call = ROW_EVENT, IN_ROW(16), .event = {TACIT_EVENT_INITIALIZATION, 0, 0, 0}}},
     {"row-init-64", "Initialization in a row of 64, six capability TLVs", 1000, ready, &six,
      {.call = ROW_EVENT, IN_ROW(64), .event = {TACIT_EVENT_INITIALIZATION, 0, 0, 0}}},
-    {"row-init-all-64", "Initialization in a row of 64, all ten kinds gained", 1000, ready, &frr,
+    {"row-init-all-64", "Initialization in a row of 64, all ten kinds gained", 1000, ready, &ten,
      {.call = ROW_EVENT, IN_ROW(64), .event = {TACIT_EVENT_INITIALIZATION, 0, 0, 0}}},
     {"row-cap-64", "Capability in a row of 64, one kind lost and seven gained", 1000, opened,
      &withdrawn, {.call = ROW_EVENT, IN_ROW(64), .event = {TACIT_EVENT_CAPABILITY, 0, 0, 0}}},

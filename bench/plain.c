@@ -3,7 +3,7 @@
  *
  * What a call takes is measured by this one (bench), and the comparison has it for a
  * third opinion (tests/compare). The rules are those of document 01, of the requests
- * L1, L2 and L3 and of tacit.h; no code is shared with the library or the second program.
+ * L1 to L4 and of tacit.h; no code is shared with the library or the second program.
  */
 #include "calls.h"
 
@@ -113,6 +113,28 @@ static inline unsigned controlled_by(unsigned apps)
     return (apps & 0x03) | (apps & 0x0C) << 5;
 }
 
+/* The capability that a kind needs, as a set: empty for most. */
+static const uint8_t needed_for[TACIT_KINDS] = {
+    [TACIT_KIND_P2MP] = TACIT_CAPABILITY_P2MP,
+    [TACIT_KIND_MP2MP_UP] = TACIT_CAPABILITY_MP2MP,
+    [TACIT_KIND_MP2MP_DOWN] = TACIT_CAPABILITY_MP2MP,
+    [TACIT_KIND_HSMP_DOWNSTREAM] = TACIT_CAPABILITY_HSMP,
+    [TACIT_KIND_HSMP_UPSTREAM] = TACIT_CAPABILITY_HSMP,
+};
+
+/* The same by capability: the kinds that need none, or one of these. */
+static inline unsigned allowed_by(unsigned capabilities)
+{
+    unsigned kinds = 0x0383; /* all but 2 to 6 */
+    if (capabilities & TACIT_CAPABILITY_P2MP)
+        kinds |= 0x0004;
+    if (capabilities & TACIT_CAPABILITY_MP2MP)
+        kinds |= 0x0018;
+    if (capabilities & TACIT_CAPABILITY_HSMP)
+        kinds |= 0x0060;
+    return kinds;
+}
+
 /* ---------------------------------------------------------------------- */
 /* Sessions                                                                */
 /* ---------------------------------------------------------------------- */
@@ -136,7 +158,8 @@ static inline bool has_spare_bits(const struct tacit_session *session)
 {
     return (session->flags & SPARE) != 0 || (session->disabled & ~TACIT_ALL_SAC) != 0 ||
            ((session->enabled | session->listed) & ~TACIT_ALL_APPS) != 0 ||
-           (session->protects & ~TACIT_ALL_KINDS) != 0;
+           (session->protects & ~TACIT_ALL_KINDS) != 0 ||
+           ((session->ours | session->theirs) & ~TACIT_ALL_CAPABILITIES) != 0;
 }
 
 static inline bool is_sound(const struct tacit_session *session)
@@ -151,7 +174,8 @@ static inline bool is_sound(const struct tacit_session *session)
             return session->listed == 0;
         return (flags & TACIT_FLAG_USES_TAC) && (session->enabled & session->listed);
     }
-    if ((flags & IN_OPEN_ALONE) || session->listed != 0 || session->disabled != 0)
+    if ((flags & IN_OPEN_ALONE) || session->listed != 0 || session->disabled != 0 ||
+        session->theirs != 0)
         return false;
     if (session->state == TACIT_READY)
         return true;
@@ -173,7 +197,7 @@ static inline unsigned permitted_kinds(const struct tacit_session *session)
     unsigned kinds = TACIT_ALL_KINDS;
     if (session->flags & TACIT_FLAG_IN_FORCE)
         kinds = opened_by(used(session), session->protects);
-    return kinds & ~controlled_by(session->disabled);
+    return kinds & ~controlled_by(session->disabled) & allowed_by(session->ours & session->theirs);
 }
 
 static inline uint8_t why_not(const struct tacit_session *session, unsigned kind)
@@ -182,9 +206,12 @@ static inline uint8_t why_not(const struct tacit_session *session, unsigned kind
         return TACIT_NOT_OPEN;
     if (controlled_by(session->disabled) >> kind & 1)
         return TACIT_DISABLED_BY_PEER;
-    if (!(session->flags & TACIT_FLAG_IN_FORCE) || opens(used(session), kind, session->protects))
-        return TACIT_PERMITTED;
-    return opens(session->enabled, kind, session->protects) ? TACIT_NOT_LISTED : TACIT_NOT_ENABLED;
+    if ((session->flags & TACIT_FLAG_IN_FORCE) && !opens(used(session), kind, session->protects))
+        return opens(session->enabled, kind, session->protects) ? TACIT_NOT_LISTED
+                                                                : TACIT_NOT_ENABLED;
+    if (needed_for[kind] & ~session->ours)
+        return TACIT_CAPABILITY_NOT_OURS;
+    return needed_for[kind] & ~session->theirs ? TACIT_CAPABILITY_NOT_THEIRS : TACIT_PERMITTED;
 }
 
 static inline uint16_t retry_interval(const struct tacit_session *session)
@@ -199,7 +226,7 @@ static inline uint16_t retry_interval(const struct tacit_session *session)
 /* Its numbers have the least significant octet first, as this machine's have. */
 _Static_assert(__BYTE_ORDER__ == __ORDER_LITTLE_ENDIAN__, "numbers are copied");
 
-/* How many octets follow these two, and the kind of record. */
+/* How many octets follow these two, but for the capabilities, and the kind of record. */
 static const uint8_t record_head[4] = {20, 0, 1, 0};
 
 /* Reads a record; false if it is not sound. */
@@ -218,6 +245,8 @@ static inline bool read_record(struct tacit_session *session, const uint8_t *rec
     session->disabled = record[12];
     memcpy(&session->hello, record + 14, 4);
     memcpy(&session->next, record + 18, 4);
+    session->ours = record[22];
+    session->theirs = record[23];
     return is_sound(session);
 }
 
@@ -236,6 +265,7 @@ static inline void update_record(uint8_t *record, const struct tacit_session *se
     record[12] = session->disabled;
     memcpy(record + 14, &session->hello, 4);
     update_next(record, session);
+    record[23] = session->theirs;
 }
 
 static inline void write_record(uint8_t *record, const struct tacit_session *session)
@@ -243,6 +273,7 @@ static inline void write_record(uint8_t *record, const struct tacit_session *ses
     memcpy(record, record_head, sizeof record_head);
     memcpy(record + 10, &session->protects, 2);
     record[13] = 0;
+    record[22] = session->ours;
     update_record(record, session);
 }
 
@@ -251,7 +282,14 @@ static inline void write_record(uint8_t *record, const struct tacit_session *ses
 /* ---------------------------------------------------------------------- */
 
 enum { HEAD = 4 }; /* octets of a TLV before its value */
-enum { TYPE_TAC = 0x050F, TYPE_SAC = 0x050D, TYPE_DYNAMIC = 0x0506 };
+enum {
+    TYPE_TAC = 0x050F,
+    TYPE_SAC = 0x050D,
+    TYPE_DYNAMIC = 0x0506,
+    TYPE_P2MP = 0x0508,
+    TYPE_MP2MP = 0x0509,
+    TYPE_HSMP = 0x0902
+};
 
 /* Each of these is for one TLV, and hands back the refusal. */
 static inline uint8_t add_tac(struct tacit_reading *reading, size_t start, size_t length)
@@ -284,7 +322,21 @@ static inline uint8_t add_dynamic(struct tacit_reading *reading, size_t length)
     return TACIT_NOT_REFUSED;
 }
 
-/* A type that is not read: U is set, or it is a capability's. */
+/* Its value is one octet, of which S, the top bit, is read. */
+static inline uint8_t add_capability(struct tacit_reading *reading, uint8_t capability,
+                                     const uint8_t *value, size_t length)
+{
+    if (reading->capabilities & capability)
+        return TACIT_REFUSED_REPEATED;
+    if (length != 1)
+        return TACIT_REFUSED_LENGTH;
+    reading->capabilities |= capability;
+    if (*value & 0x80)
+        reading->holding |= capability;
+    return TACIT_NOT_REFUSED;
+}
+
+/* A type that is not read: U is set, or it lies among those of capabilities. */
 static inline uint8_t pass_over(unsigned type)
 {
     return (type & 0x8000) || (type & 0x3F00) == 0x0500 ? TACIT_NOT_REFUSED : TACIT_REFUSED_TYPE;
@@ -310,6 +362,15 @@ static uint8_t read_area(struct tacit_reading *reading, const uint8_t *area, siz
         case TYPE_TAC: refusal = add_tac(reading, area_len - left, length); break;
         case TYPE_SAC: refusal = add_sac(reading, area_len - left, length); break;
         case TYPE_DYNAMIC: refusal = add_dynamic(reading, length); break;
+        case TYPE_P2MP:
+            refusal = add_capability(reading, TACIT_CAPABILITY_P2MP, tlv + HEAD, length);
+            break;
+        case TYPE_MP2MP:
+            refusal = add_capability(reading, TACIT_CAPABILITY_MP2MP, tlv + HEAD, length);
+            break;
+        case TYPE_HSMP:
+            refusal = add_capability(reading, TACIT_CAPABILITY_HSMP, tlv + HEAD, length);
+            break;
         default: refusal = pass_over(type); break;
         }
         if (refusal != TACIT_NOT_REFUSED)
@@ -427,6 +488,7 @@ static inline void leave(struct tacit_session *session, uint8_t state)
     session->flags &= (uint8_t)~IN_OPEN_ALONE;
     session->listed = 0;
     session->disabled = 0;
+    session->theirs = 0;
 }
 
 static inline void leave_by_mismatch(struct tacit_session *session)
@@ -461,6 +523,7 @@ static inline struct tacit_answer initialization(struct tacit_session *session, 
         session->disabled = (uint8_t)disabled_by_sac(area + reading.sac.start, reading.sac.length);
     if (reading.dynamic)
         session->flags |= TACIT_FLAG_PEER_DYNAMIC;
+    session->theirs = reading.capabilities;
     session->state = TACIT_OPEN;
     return moved(TACIT_DONE, 0, permitted_kinds(session));
 }
@@ -502,6 +565,7 @@ static inline struct tacit_answer capability(struct tacit_session *session, cons
     if (reading.sac.length != 0)
         session->disabled = (uint8_t)changed_by_sac(session->disabled, area + reading.sac.start,
                                                     reading.sac.length);
+    session->theirs = (uint8_t)((session->theirs & ~reading.capabilities) | reading.holding);
     return moved(TACIT_DONE, before, permitted_kinds(session));
 }
 
@@ -643,7 +707,8 @@ uint8_t plain_create(uint8_t *record, size_t record_len, struct tacit_settings s
     if (record_len != TACIT_RECORD_LENGTH)
         return TACIT_REFUSED_NOT_SOUND;
     if ((settings.protected_kinds & ~TACIT_ALL_KINDS) != 0 ||
-        (settings.enabled & ~TACIT_ALL_APPS) != 0 || (settings.wishes & ~TACIT_ALL_SAC) != 0)
+        (settings.enabled & ~TACIT_ALL_APPS) != 0 || (settings.wishes & ~TACIT_ALL_SAC) != 0 ||
+        (settings.capabilities & ~TACIT_ALL_CAPABILITIES) != 0)
         return TACIT_REFUSED_NUMBER;
     struct tacit_session session = {
         .state = TACIT_READY,
@@ -653,6 +718,7 @@ uint8_t plain_create(uint8_t *record, size_t record_len, struct tacit_settings s
                            (settings.drops ? TACIT_FLAG_DROPS : 0)),
         .enabled = (uint16_t)settings.enabled,
         .protects = (uint16_t)settings.protected_kinds,
+        .ours = (uint8_t)settings.capabilities,
         .next = settings.first_number,
     };
     write_record(record, &session);

@@ -65,18 +65,25 @@ struct end {
     bool active;
     uint8_t identifier[IDENTIFIER];
     uint8_t record[TACIT_RECORD_LENGTH];
-    uint32_t wishes;     /* the Apps of which we want no bindings */
-    uint32_t sequence;   /* our Hellos' configuration sequence number */
-    uint32_t next;       /* our next message's number; the library's begin at LIBRARY_FIRST */
-    bool adjacent;       /* the peer's Hellos arrive */
-    uint32_t advertised; /* the kinds whose labels the peer has from us */
+    uint32_t capabilities; /* those of P2MP, MP2MP and HSMP that it has */
+    uint32_t wishes;       /* the Apps of which we want no bindings */
+    uint32_t sequence;     /* our Hellos' configuration sequence number */
+    uint32_t next;         /* our next message's number; the library's begin at LIBRARY_FIRST */
+    bool adjacent;         /* the peer's Hellos arrive */
+    uint32_t advertised;   /* the kinds whose labels the peer has from us */
     struct connection connection;
 };
 
 #define LIBRARY_FIRST UINT32_C(0x80000000)
 
-static struct end west = {.name = "west", .active = true, .identifier = {192, 0, 2, 2, 0, 0}};
-static struct end east = {.name = "east", .active = false, .identifier = {192, 0, 2, 1, 0, 0}};
+static struct end west = {.name = "west",
+                          .active = true,
+                          .identifier = {192, 0, 2, 2, 0, 0},
+                          .capabilities = TACIT_CAPABILITY_P2MP | TACIT_CAPABILITY_MP2MP};
+static struct end east = {.name = "east",
+                          .active = false,
+                          .identifier = {192, 0, 2, 1, 0, 0},
+                          .capabilities = TACIT_CAPABILITY_P2MP};
 
 static struct end *peer_of(const struct end *end)
 {
@@ -145,6 +152,15 @@ static void log_kinds(const struct end *end, const char *deed, uint32_t kinds)
     for (uint32_t kind = 0; kind <= 9; kind++)
         if ((kinds & TACIT_KIND_SET(kind)) != 0)
             log_deed(end, deed, tacit_kind_text(kind));
+}
+
+/* For an operator who misses labels of a kind. */
+static void log_why(const struct end *end, uint32_t kind)
+{
+    struct tacit_reason why = tacit_why_not(end->record, sizeof end->record, kind);
+    char deed[48];
+    snprintf(deed, sizeof deed, "keeps back %s:", tacit_kind_text(kind));
+    log_deed(end, deed, tacit_why_text(why.reason));
 }
 
 static void advertise(struct end *end, uint32_t kinds)
@@ -249,18 +265,33 @@ static void add_tac(struct message *message, uint32_t enabled)
     put16(message->octets + start + 2, (uint32_t)(message->length - start - 4));
 }
 
+/* A TLV with S = 1 for each capability that the record holds. */
+static void add_capabilities(struct message *message, uint32_t ours)
+{
+    static const uint8_t p2mp[] = {0x85, 0x08, 0, 1, 0x80}, mp2mp[] = {0x85, 0x09, 0, 1, 0x80};
+    static const uint8_t hsmp[] = {0x89, 0x02, 0, 1, 0x80};
+    if ((ours & TACIT_CAPABILITY_P2MP) != 0)
+        add(message, p2mp, sizeof p2mp);
+    if ((ours & TACIT_CAPABILITY_MP2MP) != 0)
+        add(message, mp2mp, sizeof mp2mp);
+    if ((ours & TACIT_CAPABILITY_HSMP) != 0)
+        add(message, hsmp, sizeof hsmp);
+}
+
 static void send_initialization(struct end *end)
 {
     /* Version 1, KeepAlive time 180, PDUs of 4,096 octets; then the receiver. */
     static const uint8_t session[] = {0x05, 0x00, 0, 14, 0, 1, 0, 180, 0, 0, 0x10, 0x00};
     static const uint8_t dynamic[] = {0x85, 0x06, 0, 1, 0x80};
+    const struct tacit_session stored = tacit_load(end->record, sizeof end->record).session;
     uint8_t sac[TACIT_SAC_MOST];
     struct message message = message_of(end, INITIALIZATION);
     add(&message, session, sizeof session);
     add(&message, peer_of(end)->identifier, IDENTIFIER);
     add(&message, dynamic, sizeof dynamic);
-    add_tac(&message, tacit_load(end->record, sizeof end->record).session.enabled);
+    add_tac(&message, stored.enabled);
     add(&message, sac, tacit_wish_sac(end->wishes, sac, sizeof sac).written);
+    add_capabilities(&message, stored.ours);
     send_message(end, "Initialization", &message);
 }
 
@@ -652,14 +683,16 @@ static void begin(void)
     puts("");
     puts("Two ends of a targeted session in one loop. Each line is whose it is, the state");
     puts("after an answer, what happened and what the library answered; or what the");
-    puts("daemon did. Both support LDPv4 Remote LFA and FEC 129 PW.");
+    puts("daemon did. Both support LDPv4 Remote LFA and FEC 129 PW, and hold the capability");
+    puts("P2MP; west holds MP2MP besides.");
     for (int i = 0; i < 2; i++) {
         struct tacit_settings settings = {.initiating = ends[i]->active,
                                           .active = ends[i]->active,
                                           .uses_tac = true,
                                           .enabled = enabled,
                                           .first_number = LIBRARY_FIRST,
-                                          .wishes = ends[i]->wishes};
+                                          .wishes = ends[i]->wishes,
+                                          .capabilities = ends[i]->capabilities};
         ends[i]->connection.fd = -1;
         ends[i]->sequence = ends[i]->next = 1;
         expect(tacit_create(ends[i]->record, sizeof ends[i]->record, settings) == 0,
@@ -753,6 +786,20 @@ static void a_wish(void)
     expect_both(TACIT_OPEN, pseudowires);
 }
 
+/* mLDP Tunneling opens five kinds. Both ends hold what one of them needs. */
+static void trees(void)
+{
+    const uint32_t p2mp = TACIT_KIND_SET(TACIT_KIND_P2MP);
+    step("Both operators switch mLDP Tunneling on");
+    expect(change(&west, TACIT_APP_MLDP_TUNNELING, true), "it is switched");
+    run();
+    expect(change(&east, TACIT_APP_MLDP_TUNNELING, true), "it is switched");
+    run();
+    expect_both(TACIT_OPEN, pseudowires | p2mp);
+    log_why(&west, TACIT_KIND_MP2MP_DOWN);
+    log_why(&east, TACIT_KIND_MP2MP_DOWN);
+}
+
 int main(void)
 {
     begin();
@@ -762,6 +809,7 @@ int main(void)
     wakes_by_a_hello();
     a_broken_message();
     a_wish();
+    trees();
     if (unexpected == 0)
         puts("\nAll as expected.");
     else

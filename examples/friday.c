@@ -32,7 +32,7 @@ static void expect(bool holds, const char *what)
 static void print_octets(const char *title, const uint8_t *octets, size_t length)
 {
     for (size_t i = 0; i < length; i++) {
-        if (i % 22 == 0)
+        if (i % 24 == 0)
             printf("%s   %-13s", i == 0 ? "" : "\n", i == 0 ? title : "");
         printf(" %02X", octets[i]);
     }
@@ -63,7 +63,7 @@ static void print_kinds(const char *title, uint32_t set)
 /* The kinds that may not be sent, and why, reason by reason. */
 static void print_kept_back(const uint8_t *record)
 {
-    for (uint32_t reason = TACIT_NOT_OPEN; reason <= TACIT_NOT_LISTED; reason++) {
+    for (uint32_t reason = TACIT_NOT_OPEN; reason <= TACIT_CAPABILITY_NOT_THEIRS; reason++) {
         uint32_t set = 0;
         for (uint32_t kind = 0; kind <= 9; kind++)
             if (tacit_why_not(record, TACIT_RECORD_LENGTH, kind).reason == reason)
@@ -262,7 +262,7 @@ int main(void)
     expect(answer.outcome == TACIT_DONE && answer.gained == pseudowires, "they are gained again");
 
     step("A hostile message");
-    puts("   Its first TLV alone would end the negotiation and permit every kind. Its");
+    puts("   Its first TLV alone would end the negotiation and permit what it keeps back. Its");
     puts("   second claims two octets and has one.");
     const uint8_t hostile[] = {0x85, 0x0F, 0x00, 0x01, 0x00, 0x85, 0x0D, 0x00, 0x02, 0x80};
     uint8_t before[TACIT_RECORD_LENGTH];

@@ -2,17 +2,18 @@
  * tacit.h - application negotiation for targeted LDP sessions
  *
  * Targeted Application Capability (TAC, RFC 8223) and State Advertisement
- * Control (SAC, RFC 7473). The library reads the optional parameters of
- * Initialization and Capability messages, keeps the session's state, says which
- * kinds of label may be sent, and writes the Capability message for a change
- * made at this end and for a wish of its own: kinds that the peer is to send no
- * bindings of. TCP, timers, Hello and Notification octets, the PDU header,
+ * Control (SAC, RFC 7473), with the P2MP, MP2MP and HSMP capabilities that mLDP's
+ * kinds of label need (RFC 6388, RFC 7140). The library reads the optional
+ * parameters of Initialization and Capability messages, keeps the session's state,
+ * says which kinds of label may be sent, and writes the Capability message for a
+ * change made at this end and for a wish of its own: kinds that the peer is to
+ * send no bindings of. TCP, timers, Hello and Notification octets, the PDU header,
  * addresses and the label database stay with the daemon.
  *
  * This is the manual of the calls. docs/DAEMON.md says how a daemon drives them
  * from discovery to close, and what the RFCs ask of the part that stays with it.
  *
- * The session is a record of 22 octets that you own. You create it, hand it to
+ * The session is a record of 24 octets that you own. You create it, hand it to
  * every call, and may store it or copy it as you like. The library keeps
  * nothing between calls, allocates nothing and calls nothing, not even libc.
  * Calls on different records may run at once; calls on one record may not,
@@ -72,10 +73,10 @@ extern "C" {
 /* ------------------------------------------------------------------------ */
 
 /* The version of this header and its library, to be compared, and for a log. */
-#define TACIT_VERSION      30000 /* 3.0.0: two digits for each number behind the first */
-#define TACIT_VERSION_TEXT "3.0.0"
+#define TACIT_VERSION      40000 /* 4.0.0: two digits for each number behind the first */
+#define TACIT_VERSION_TEXT "4.0.0"
 
-#define TACIT_RECORD_LENGTH  22   /* octets of a record */
+#define TACIT_RECORD_LENGTH  24   /* octets of a record */
 #define TACIT_MESSAGE_LENGTH 17   /* octets of the message of a local change */
 #define TACIT_WISH_LENGTH    14   /* octets of the message of a wish */
 #define TACIT_MESSAGE_AREA    8   /* where in either the parameter area starts, to its end */
@@ -97,13 +98,16 @@ enum tacit_refusal {
                                        fewer behind it than its length says */
     TACIT_REFUSED_LENGTH      = 3,  /* a TAC whose length is not 1, 5, 9, ..; a SAC of
                                        length 0 or 1; a Dynamic Capability Announcement
-                                       of a length other than 1 */
+                                       or a P2MP, MP2MP or HSMP capability of a length
+                                       other than 1 */
     TACIT_REFUSED_TYPE        = 4,  /* a type that we do not read and may not pass over:
                                        U is 0, and it is not in 0x0500 to 0x05FF */
-    TACIT_REFUSED_REPEATED    = 5,  /* TAC, SAC or Dynamic stands there twice */
+    TACIT_REFUSED_REPEATED    = 5,  /* TAC, SAC, Dynamic or one of the three capabilities
+                                       stands there twice */
     TACIT_REFUSED_NUMBER      = 6,  /* not a TA-Id (1 to 13), not a kind (0 to 9), or a set
                                        with a bit that is none of these; at creation,
-                                       wishes with a bit that is no App's */
+                                       wishes with a bit that is no App's, or
+                                       capabilities with one beyond the three */
     TACIT_REFUSED_STATE       = 7,  /* the event is not for the state of the session */
     TACIT_REFUSED_ROOM        = 8,  /* there is something to write, and fewer octets of room
                                        than it has: 17 for a local change, 14 for a
@@ -112,7 +116,7 @@ enum tacit_refusal {
                                        Capability messages */
     TACIT_REFUSED_NOT_SOUND   = 10, /* the record, the session or any session of the row
                                        is not sound (see tacit_sound); at creation and
-                                       at tacit_store, record_len is not 22; kept
+                                       at tacit_store, record_len is not 24; kept
                                        wishes with a bit that is no App's */
     TACIT_REFUSED_ROW         = 11, /* the row is empty or has more than 64 sessions, or
                                        the row number is outside it */
@@ -142,30 +146,39 @@ enum tacit_state_number {
 
 /*
  * Why a kind of label may not be sent: the first of these, from 1 on, that is so.
- * An application opens the kinds that stand beside it at enum tacit_application.
+ * An application opens the kinds that stand beside it at enum tacit_application; the
+ * capability that a kind needs stands beside it at enum tacit_kind.
  */
 enum tacit_why {
-    TACIT_PERMITTED        = 0,  /* none of them: it may be sent; also with every refusal */
-    TACIT_NOT_OPEN         = 1,  /* the session is not Open */
-    TACIT_DISABLED_BY_PEER = 2,  /* the peer has disabled the kind, by SAC */
-    TACIT_NOT_ENABLED      = 3,  /* negotiation is in force, and no application that opens the
-                                    kind is enabled here */
-    TACIT_NOT_LISTED       = 4   /* negotiation is in force, some application that opens the
-                                    kind is enabled here, and the peer lists none of these */
+    TACIT_PERMITTED             = 0,  /* none of them: it may be sent; also with every
+                                         refusal */
+    TACIT_NOT_OPEN              = 1,  /* the session is not Open */
+    TACIT_DISABLED_BY_PEER      = 2,  /* the peer has disabled the kind, by SAC */
+    TACIT_NOT_ENABLED           = 3,  /* negotiation is in force, and no application that
+                                         opens the kind is enabled here */
+    TACIT_NOT_LISTED            = 4,  /* negotiation is in force, some application that opens
+                                         the kind is enabled here, and the peer lists none
+                                         of these */
+    TACIT_CAPABILITY_NOT_OURS   = 5,  /* the kind needs a capability that is not ours; this
+                                         and the next also where negotiation is not in
+                                         force */
+    TACIT_CAPABILITY_NOT_THEIRS = 6   /* that capability is ours and not the peer's, which
+                                         has not announced it, or has withdrawn it */
 };
 
 /*
  * Kinds of label. In a set of kinds, kind k is bit k. The four with an App can
- * be switched off by the peer with a SAC element of that App.
+ * be switched off by the peer with a SAC element of that App. The five with a
+ * capability, mLDP's, need it held by both ends.
  */
 enum tacit_kind {
     TACIT_KIND_IPV4_PREFIX      = 0,  /* App 1 */
     TACIT_KIND_IPV6_PREFIX      = 1,  /* App 2 */
-    TACIT_KIND_P2MP             = 2,
-    TACIT_KIND_MP2MP_UP         = 3,
-    TACIT_KIND_MP2MP_DOWN       = 4,
-    TACIT_KIND_HSMP_DOWNSTREAM  = 5,
-    TACIT_KIND_HSMP_UPSTREAM    = 6,
+    TACIT_KIND_P2MP             = 2,  /* capability P2MP */
+    TACIT_KIND_MP2MP_UP         = 3,  /* capability MP2MP */
+    TACIT_KIND_MP2MP_DOWN       = 4,  /* capability MP2MP */
+    TACIT_KIND_HSMP_DOWNSTREAM  = 5,  /* capability HSMP */
+    TACIT_KIND_HSMP_UPSTREAM    = 6,  /* capability HSMP */
     TACIT_KIND_PWID             = 7,  /* App 3 */
     TACIT_KIND_GENERALIZED_PWID = 8,  /* App 4 */
     TACIT_KIND_P2MP_PW_UPSTREAM = 9
@@ -173,6 +186,27 @@ enum tacit_kind {
 
 #define TACIT_KIND_SET(kind) (UINT32_C(1) << (kind)) /* the set of this one kind, 0 to 9 */
 #define TACIT_ALL_KINDS      UINT32_C(0x03FF)
+
+/*
+ * The capabilities that mLDP's kinds need, each as the set of itself: a set of them
+ * is these added up. Beside each are the type of its TLV and the kinds that need it.
+ *
+ * A kind is permitted only if the capability that it needs is held by both ends:
+ * where negotiation is in force, where it is not, and where Session Protection opens
+ * the kind. Ours are settled at creation and never change. The peer's come with its
+ * Initialization, change by its Capability messages, and are forgotten when the
+ * session leaves Open. Which applications are common, and which a session uses, does
+ * not go by them.
+ *
+ * In C++ this type is written with enum before it: tacit_capability alone is the call.
+ */
+enum tacit_capability {
+    TACIT_CAPABILITY_P2MP  = 0x01,  /* 0x0508 (RFC 6388); kind 2 */
+    TACIT_CAPABILITY_MP2MP = 0x02,  /* 0x0509 (RFC 6388); kinds 3 and 4 */
+    TACIT_CAPABILITY_HSMP  = 0x04   /* 0x0902 (RFC 7140); kinds 5 and 6 */
+};
+
+#define TACIT_ALL_CAPABILITIES UINT32_C(0x07)
 
 /*
  * Targeted applications by TA-Id, and the kinds that each opens. In a set of
@@ -217,11 +251,12 @@ enum tacit_sac_app {
 /* ------------------------------------------------------------------------ */
 
 /*
- * 22 octets, the same on every machine. Numbers of more than one octet have the
+ * 24 octets, the same on every machine: the stored record, octets 0 to 21, and
+ * beside it the capabilities of both ends. Numbers of more than one octet have the
  * least significant octet first.
  *
  *    octet   holds
- *    0, 1    20, the number of octets that follow these two
+ *    0, 1    20, the number of octets of the stored record that follow these two
  *    2, 3    1, the kind of record
  *    4       the state (enum tacit_state_number)
  *    5       flags (enum tacit_flag)
@@ -232,9 +267,18 @@ enum tacit_sac_app {
  *    13      0
  *    14-17   the recorded Hello number
  *    18-21   the number of the next message that we write
+ *    22      our capabilities (enum tacit_capability)
+ *    23      the peer's capabilities; 0 unless Open
  *
  * Read it if you must, but write it only through the calls: what you write by
  * hand may be refused as not sound.
+ *
+ * Octets 0 to 21 are as they were before version 4, when a record had no others. Such
+ * a record of 22 octets is refused with 10: lengthen it by two octets of 0. It is then
+ * a session that holds no capability and permits none of kinds 2 to 6, also one that
+ * was stored Open. A peer is known to hold a capability once a Capability message
+ * announces it or the session opens anew; but ours are fixed at creation, so that
+ * only a session created anew, with settings that name them, permits these kinds.
  */
 enum tacit_flag {
     TACIT_FLAG_INITIATING     = 0x01,  /* this end began the extended discovery */
@@ -260,6 +304,8 @@ struct tacit_part {
 struct tacit_reading {
     uint8_t refusal;
     uint8_t dynamic;        /* 1: a Dynamic Capability Announcement is there */
+    uint8_t capabilities;   /* the set of capabilities that are there, whatever their S */
+    uint8_t holding;        /* of these, the set of those with S = 1 */
     struct tacit_part tac;  /* the TAC's value: the octet with S, then elements of 4 octets */
     struct tacit_part sac;  /* the SAC's value: an octet, then elements of 1 octet */
 };
@@ -288,6 +334,8 @@ struct tacit_settings {
     uint32_t enabled;          /* the set of applications that this end supports */
     uint32_t first_number;     /* the number of the first message that we write */
     uint32_t wishes;           /* the set of Apps of which we want no bindings */
+    uint32_t capabilities;     /* the set of capabilities that this end has; 0: no label of
+                                  kinds 2 to 6 will ever be permitted */
 };
 
 /* What a wish did, and the wishes to keep from then on. */
@@ -329,9 +377,8 @@ struct tacit_retry {
 
 /*
  * One session of a row: what a record holds, under the same names. The struct
- * has padding (an octet after disabled, two after protects), so compare two
- * field by field and not by memcmp. Fill it by tacit_load and write it only
- * through the calls.
+ * has padding (an octet after disabled), so compare two field by field and not by
+ * memcmp. Fill it by tacit_load and write it only through the calls.
  */
 struct tacit_session {
     uint8_t state;      /* enum tacit_state_number */
@@ -340,6 +387,8 @@ struct tacit_session {
     uint16_t enabled;   /* the applications enabled at this end */
     uint16_t listed;    /* the applications that the peer lists */
     uint16_t protects;  /* the protected kinds */
+    uint8_t ours;       /* our capabilities (enum tacit_capability) */
+    uint8_t theirs;     /* the peer's capabilities */
     uint32_t hello;     /* the recorded Hello number */
     uint32_t next;      /* the number of the next message that we write */
 };
@@ -419,18 +468,20 @@ TACIT_ASSERT(sizeof(bool) == 1);
 TACIT_ASSERT(sizeof(struct tacit_part) == 4);
 TACIT_ASSERT(offsetof(struct tacit_part, start) == 0);
 TACIT_ASSERT(offsetof(struct tacit_part, length) == 2);
-TACIT_ASSERT(sizeof(struct tacit_reading) == 10);
+TACIT_ASSERT(sizeof(struct tacit_reading) == 12);
 TACIT_ASSERT(offsetof(struct tacit_reading, refusal) == 0);
 TACIT_ASSERT(offsetof(struct tacit_reading, dynamic) == 1);
-TACIT_ASSERT(offsetof(struct tacit_reading, tac) == 2);
-TACIT_ASSERT(offsetof(struct tacit_reading, sac) == 6);
+TACIT_ASSERT(offsetof(struct tacit_reading, capabilities) == 2);
+TACIT_ASSERT(offsetof(struct tacit_reading, holding) == 3);
+TACIT_ASSERT(offsetof(struct tacit_reading, tac) == 4);
+TACIT_ASSERT(offsetof(struct tacit_reading, sac) == 8);
 TACIT_ASSERT(sizeof(struct tacit_answer) == 8);
 TACIT_ASSERT(offsetof(struct tacit_answer, refusal) == 0);
 TACIT_ASSERT(offsetof(struct tacit_answer, outcome) == 1);
 TACIT_ASSERT(offsetof(struct tacit_answer, lost) == 2);
 TACIT_ASSERT(offsetof(struct tacit_answer, gained) == 4);
 TACIT_ASSERT(offsetof(struct tacit_answer, written) == 6);
-TACIT_ASSERT(sizeof(struct tacit_settings) == 20);
+TACIT_ASSERT(sizeof(struct tacit_settings) == 24);
 TACIT_ASSERT(offsetof(struct tacit_settings, initiating) == 0);
 TACIT_ASSERT(offsetof(struct tacit_settings, active) == 1);
 TACIT_ASSERT(offsetof(struct tacit_settings, uses_tac) == 2);
@@ -439,6 +490,7 @@ TACIT_ASSERT(offsetof(struct tacit_settings, protected_kinds) == 4);
 TACIT_ASSERT(offsetof(struct tacit_settings, enabled) == 8);
 TACIT_ASSERT(offsetof(struct tacit_settings, first_number) == 12);
 TACIT_ASSERT(offsetof(struct tacit_settings, wishes) == 16);
+TACIT_ASSERT(offsetof(struct tacit_settings, capabilities) == 20);
 TACIT_ASSERT(sizeof(struct tacit_wished) == 12);
 TACIT_ASSERT(offsetof(struct tacit_wished, answer) == 0);
 TACIT_ASSERT(offsetof(struct tacit_wished, wishes) == 8);
@@ -467,6 +519,8 @@ TACIT_ASSERT(offsetof(struct tacit_session, disabled) == 2);
 TACIT_ASSERT(offsetof(struct tacit_session, enabled) == 4);
 TACIT_ASSERT(offsetof(struct tacit_session, listed) == 6);
 TACIT_ASSERT(offsetof(struct tacit_session, protects) == 8);
+TACIT_ASSERT(offsetof(struct tacit_session, ours) == 10);
+TACIT_ASSERT(offsetof(struct tacit_session, theirs) == 11);
 TACIT_ASSERT(offsetof(struct tacit_session, hello) == 12);
 TACIT_ASSERT(offsetof(struct tacit_session, next) == 16);
 TACIT_ASSERT(sizeof(struct tacit_loaded) == 24);
@@ -507,9 +561,11 @@ TACIT_ASSERT(offsetof(struct tacit_event, number) == 12);
  * message number. The events below read the area themselves; this call is for a
  * log, or for a daemon that looks into the lists on its own.
  *
- * Three types are read: TAC 0x050F, SAC 0x050D and Dynamic Capability
- * Announcement 0x0506, whatever their U and F. Other types are passed over if U
- * is 1 or if they lie in 0x0500 to 0x05FF, and may repeat.
+ * Six types are read: TAC 0x050F, SAC 0x050D, Dynamic Capability Announcement
+ * 0x0506, and the capabilities P2MP 0x0508, MP2MP 0x0509 and HSMP 0x0902, whatever
+ * their U and F. The value of a capability is one octet with S as its top bit; its
+ * other bits are not read. Other types are passed over if U is 1 or if they lie in
+ * 0x0500 to 0x05FF, and may repeat.
  *
  * Refusals: 1; then TLV by TLV from the left, for each 2, 4, 5, 3.
  */
@@ -517,12 +573,18 @@ struct tacit_reading tacit_read(const uint8_t *area, size_t area_len);
 
 /*
  * Makes a fresh session: Ready, no Hello recorded, nothing known of the peer.
- * record_len must be 22; whatever stood there is overwritten.
+ * record_len must be 24; whatever stood there is overwritten.
  *
  * The wishes are tested here and not stored: keep them beside the record, and hand
  * them to tacit_wish, tacit_wish_sac and tacit_wanted.
  *
- * Returns the refusal: 10, 6. Refused, no record is written.
+ * Put into capabilities those that this end really has. They are stored and never
+ * change. The peer learns them from you, for the library does not write them yet: put
+ * the TLV of each, 85 08 00 01 80 for P2MP, 85 09 00 01 80 for MP2MP and 89 02 00 01
+ * 80 for HSMP, into every Initialization that you send, and no TLV of any other.
+ *
+ * Returns the refusal: 10; 6 for protected kinds, enabled applications, wishes or
+ * capabilities with a bit that means nothing. Refused, no record is written.
  */
 uint8_t tacit_create(uint8_t *record, size_t record_len, struct tacit_settings settings);
 
@@ -533,10 +595,12 @@ uint8_t tacit_create(uint8_t *record, size_t record_len, struct tacit_settings s
  * elements or without. The peer then lists every known TA-Id in it, in any
  * order, whatever S and E are. A SAC element with D = 1 disables its kind; with
  * D = 0 it does nothing. A Dynamic Capability Announcement says that the peer takes
- * Capability messages.
+ * Capability messages. The peer holds exactly those of the three capabilities that
+ * are there, whatever their S, and whether or not the session uses TAC.
  *
  * DONE: the session is Open. Without negotiation in force that is as RFC 5036
- * has it, and every kind is permitted that SAC has not disabled.
+ * has it, and every kind is permitted that SAC has not disabled, if both ends hold
+ * the capability that it needs: kinds 0, 1, 7, 8 and 9 need none.
  *
  * MISMATCH: negotiation is in force and no application is both enabled here and
  * listed by the peer. Send the Notification and close the connection; then go
@@ -558,7 +622,9 @@ struct tacit_answer tacit_initialization(uint8_t *record, size_t record_len, con
  * counts. If negotiation was not in force it comes into force, with a list that
  * starts empty. A TAC with S = 0 empties the list and puts negotiation out of
  * force. SAC elements apply in their order: D = 1 disables a kind, D = 0 enables
- * it. A Dynamic Capability Announcement has no effect.
+ * it. A Dynamic Capability Announcement has no effect. A capability with S = 1 is
+ * held by the peer from then on, one with S = 0 is withdrawn, and one that is not
+ * there stays as it was; so also where the session does not use TAC.
  *
  * DONE: still Open; see lost and gained. MISMATCH: no common application is
  * left; do as at tacit_initialization.
@@ -614,8 +680,9 @@ struct tacit_answer tacit_closed(uint8_t *record, size_t record_len);
 
 /*
  * May labels of this kind be sent now? Only in Open; not a kind that the peer
- * has disabled; and, with negotiation in force, only a kind that some
- * application opens which is both enabled here and listed by the peer.
+ * has disabled; with negotiation in force, only a kind that some application opens
+ * which is both enabled here and listed by the peer; and a kind that needs a
+ * capability only where both ends hold it.
  *
  * Refusals: 10, 6. Refused, nothing is permitted.
  */
@@ -627,7 +694,9 @@ struct tacit_kinds tacit_permitted_kinds(const uint8_t *record, size_t record_le
 /*
  * Why may labels of this kind not be sent now? PERMITTED exactly where
  * tacit_permitted permits the kind; else the first reason that is so, for a log or
- * an operator who asks.
+ * an operator who asks. They are asked in the order of their numbers: not Open,
+ * disabled by the peer, not enabled, not listed, and last the capability, ours before
+ * the peer's. So NOT_THEIRS says that this capability alone is wanting.
  *
  * Refusals: 10, 6. Refused, the reason says nothing: look at the refusal first.
  */
@@ -701,13 +770,15 @@ struct tacit_want tacit_wanted(uint32_t wishes, uint32_t kind);
 struct tacit_retry tacit_retry_interval(const uint8_t *record, size_t record_len);
 
 /*
- * Is this a record that a session can have? It has 22 octets; octets 0 to 3 and
+ * Is this a record that a session can have? It has 24 octets; octets 0 to 3 and
  * 13 are as the table says, the state is 0 to 3, and no bit is 1 that has no
- * meaning. Besides, what it says must fit together:
+ * meaning, in the two sets of capabilities as elsewhere. Besides, what it says must
+ * fit together:
  *
  * - if negotiation is in force, the session is Open and uses TAC, and the sets of
  *   enabled and listed applications meet; if it is not, nothing is listed;
- * - if the session is not Open, no App is disabled and the peer is not dynamic;
+ * - if the session is not Open, no App is disabled, the peer is not dynamic and holds
+ *   no capability;
  * - if no Hello is recorded, its number is 0;
  * - a session in Held is active, and not one that goes to Gone instead (one that
  *   initiates and drops);
@@ -728,8 +799,9 @@ bool tacit_sound(const uint8_t *record, size_t record_len);
  * to the limits.
  *
  * A session uses an application if it is Open, negotiation is in force, and the
- * application is both enabled here and listed by the peer. Limits are read only
- * when an Initialization arrives: setting one turns no open session out.
+ * application is both enabled here and listed by the peer, whatever kinds it may
+ * send. Limits are read only when an Initialization arrives: setting one turns no
+ * open session out.
  *
  * With the row you keep its totals: how many of its sessions permit each kind, so
  * that tacit_kind_total answers before a batch of labels without looking at the
@@ -744,7 +816,7 @@ bool tacit_sound(const uint8_t *record, size_t record_len);
 /* The session of a record. Refusals: 10. */
 struct tacit_loaded tacit_load(const uint8_t *record, size_t record_len);
 
-/* Stores a sound session in a record of 22 octets. Returns the refusal: 10. */
+/* Stores a sound session in a record of 24 octets. Returns the refusal: 10. */
 uint8_t tacit_store(struct tacit_session session, uint8_t *record, size_t record_len);
 
 /* 64 for every application: no row has more sessions, so none is turned away. */
@@ -928,7 +1000,7 @@ static inline const char *tacit_refusal_text(uint32_t refusal)
     case TACIT_REFUSED_ROOM: return "too little room for what is to be written";
     case TACIT_REFUSED_NOT_DYNAMIC: return "peer takes no Capability messages";
     case TACIT_REFUSED_NOT_SOUND:
-        return "record, session or wishes not sound, or record not of 22 octets";
+        return "record, session or wishes not sound, or record not of 24 octets";
     case TACIT_REFUSED_ROW: return "row empty or over 64 sessions, or row number outside it";
     case TACIT_REFUSED_LIMIT: return "limit over 64";
     case TACIT_REFUSED_APP: return "no SAC App";
@@ -967,6 +1039,8 @@ static inline const char *tacit_why_text(uint32_t reason)
     case TACIT_DISABLED_BY_PEER: return "disabled by the peer";
     case TACIT_NOT_ENABLED: return "no application that opens it is enabled here";
     case TACIT_NOT_LISTED: return "no enabled application that opens it is listed by the peer";
+    case TACIT_CAPABILITY_NOT_OURS: return "the capability that it needs is not held here";
+    case TACIT_CAPABILITY_NOT_THEIRS: return "the capability that it needs is not held by the peer";
     default: return "unknown";
     }
 }
@@ -984,6 +1058,16 @@ static inline const char *tacit_kind_text(uint32_t kind)
     case TACIT_KIND_PWID: return "PWid";
     case TACIT_KIND_GENERALIZED_PWID: return "Generalized PWid";
     case TACIT_KIND_P2MP_PW_UPSTREAM: return "P2MP PW Upstream";
+    default: return "unknown";
+    }
+}
+
+static inline const char *tacit_capability_text(uint32_t capability)
+{
+    switch (capability) {
+    case TACIT_CAPABILITY_P2MP: return "P2MP";
+    case TACIT_CAPABILITY_MP2MP: return "MP2MP";
+    case TACIT_CAPABILITY_HSMP: return "HSMP";
     default: return "unknown";
     }
 }

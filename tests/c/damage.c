@@ -8,7 +8,8 @@
 
 static void every_call(const struct record *original)
 {
-    struct octets area = hex("85060001 80 850F0009 80 00040000 00078000 850D0003 80 C0 10");
+    struct octets area = hex("85060001 80 850F0009 80 00040000 00078000 850D0003 80 C0 10"
+                             "85080001 80 89020001 00");
     uint8_t room[24] = {0};
     permitted_kinds(original);
     retry_interval(original);
@@ -36,10 +37,10 @@ static void every_call(const struct record *original)
 static void records(void)
 {
     static const char *const rows[] = {
-        "1400 0100 00 47 4800 0000 0000 00 00 05000000 01000000",
-        "1400 0100 01 37 4800 4000 0300 09 00 00000000 FFFFFFFF",
-        "1400 0100 02 47 4800 0000 0000 00 00 05000000 01000000",
-        "1400 0100 03 0F 4800 0000 0000 00 00 00000000 01000000",
+        "1400 0100 00 47 4800 0000 0000 00 00 05000000 01000000 00 00",
+        "1400 0100 01 37 4800 4000 0300 09 00 00000000 FFFFFFFF 07 05",
+        "1400 0100 02 47 4800 0000 0000 00 00 05000000 01000000 07 00",
+        "1400 0100 03 0F 4800 0000 0000 00 00 00000000 01000000 00 00",
     };
     for (size_t row = 0; row < sizeof rows / sizeof *rows; row++) {
         struct record original = record_of(rows[row]);
@@ -52,8 +53,12 @@ static void records(void)
                 bool same = value == original.octets[at];
                 if (at < 4 || at == 13)
                     CHECK(sound(&record) == same);
-                if (at >= 18)
+                if (at >= 18 && at < 22)
                     CHECK(sound(&record));
+                if (at == 22)
+                    CHECK(sound(&record) == (value <= 7));
+                if (at == 23)
+                    CHECK(sound(&record) == (value <= (record.octets[4] == TACIT_OPEN ? 7 : 0)));
                 every_call(&record);
             }
         }
@@ -63,7 +68,8 @@ static void records(void)
 static void records_without_order(void)
 {
     for (int i = 0; i < 2000; i++) {
-        struct record record = record_of("1400 0100 00 00 0000 0000 0000 00 00 00000000 00000000");
+        struct record record =
+            record_of("1400 0100 00 00 0000 0000 0000 00 00 00000000 00000000 00 00");
         trying("record %d without order", i);
         for (size_t at = i % 2 ? 4 : 0; at < TACIT_RECORD_LENGTH; at++)
             record.octets[at] = (uint8_t)any_number();
@@ -75,7 +81,7 @@ static void records_without_order(void)
 static void areas(void)
 {
     struct octets whole = hex("85000002 0001 85060001 80 850F000D 80 00048000 00078000 000A0000"
-                              "850D0003 80 C0 10 8700 0004 00000000");
+                              "850D0003 80 C0 10 8700 0004 00000000" ALL_THREE);
     struct record ready = fresh(APP(4) | APP(7));
     struct record open = opened(APP(4) | APP(7), "85060001 80 850F0009 80 00048000 00078000");
     for (size_t length = 0; length <= whole.length; length++) {
@@ -129,15 +135,18 @@ static void long_ways(void)
         "850F0005 80 00070000",
         "850D0002 80 40",
         "850F0005 80 000A8000 06000000",
+        ALL_THREE "85060001 80 850F0005 80 00088000",
+        "85080001 80 85090001 00",
     };
     for (unsigned ends = 0; ends < 16; ends++) {
         struct record record = {{0}, TACIT_RECORD_LENGTH};
         create(&record,
                (struct tacit_settings){.initiating = ends & 1, .active = ends & 2,
                                        .uses_tac = ends & 4, .drops = ends & 8,
-                                       .protected_kinds = 0x101,
+                                       .protected_kinds = 0x10D,
                                        .enabled = APP(4) | APP(7) | APP(8),
-                                       .first_number = any_number()});
+                                       .first_number = any_number(),
+                                       .capabilities = any_number() % 8});
         uint32_t wishes = ends;
         for (int step = 0; step < 300; step++) {
             trying("step %d of a session of sort %u", step, ends);
@@ -176,6 +185,9 @@ static const char *const areas_of_rows[] = {
     "850F0001 00",
     "850F0005 80 00070000",
     "850F0005 80 00048000 06000000",
+    ALL_THREE "850F0005 80 00088000",
+    "85080001 80 85090001 00",
+    "85080001 00 89020001 80",
 };
 
 /* Numbers about the limits of a total, and now and then any other. */
@@ -214,10 +226,10 @@ static struct tacit_answer any_event(struct sessions *row, size_t at)
 static void sessions(void)
 {
     static const char *const rows[] = {
-        "1400 0100 00 47 4800 0000 0000 00 00 05000000 01000000",
-        "1400 0100 01 37 4800 4000 0300 09 00 00000000 FFFFFFFF",
-        "1400 0100 02 47 4800 0000 0000 00 00 05000000 01000000",
-        "1400 0100 03 0F 4800 0000 0000 00 00 00000000 01000000",
+        "1400 0100 00 47 4800 0000 0000 00 00 05000000 01000000 00 00",
+        "1400 0100 01 37 4800 4000 0300 09 00 00000000 FFFFFFFF 07 05",
+        "1400 0100 02 47 4800 0000 0000 00 00 05000000 01000000 07 00",
+        "1400 0100 03 0F 4800 0000 0000 00 00 00000000 01000000 00 00",
     };
     struct record other = opened(APP(4) | APP(7), "85060001 80 850F0005 80 00048000");
     for (size_t row = 0; row < sizeof rows / sizeof *rows; row++) {
@@ -269,9 +281,10 @@ static void long_ways_of_rows(void)
         create(&record,
                (struct tacit_settings){.initiating = ends & 1, .active = ends & 2,
                                        .uses_tac = (ends & 12) != 12, .drops = ends & 8,
-                                       .protected_kinds = 0x101,
+                                       .protected_kinds = 0x10D,
                                        .enabled = APP(4) | APP(7) | APP(8),
-                                       .first_number = any_number()});
+                                       .first_number = any_number(),
+                                       .capabilities = any_number() % 8});
         row.at[ends] = session_in(&record);
     }
     for (int step = 0; step < 6000; step++) {

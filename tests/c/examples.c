@@ -1,4 +1,7 @@
-/* The worked examples of the rules, by their numbers, and the stored record. */
+/*
+ * The worked examples of the rules, by their numbers, where neither end holds a capability,
+ * and the stored record.
+ */
 #include "harness.h"
 
 #include <string.h>
@@ -27,11 +30,11 @@ static void expect_refusal(uint8_t refusal, const char *area)
 
 static void example1(void)
 {
-    struct record record = fresh(APP(4));
+    struct record record = holding(0, APP(4));
     struct tacit_answer answer = initialization_text(&record, "");
-    CHECK(answer.outcome == TACIT_DONE && answer.gained == TACIT_ALL_KINDS && answer.lost == 0);
+    CHECK(answer.outcome == TACIT_DONE && answer.gained == FREE_KINDS && answer.lost == 0);
     CHECK(state(&record) == TACIT_OPEN);
-    CHECK(kinds(&record) == TACIT_ALL_KINDS);
+    CHECK(kinds(&record) == FREE_KINDS);
 }
 
 static void example2(void)
@@ -53,7 +56,7 @@ static void example4(void)
 
 static struct record after_example5(void)
 {
-    struct record record = opened(APP(7), example_4);
+    struct record record = opened_holding(0, APP(7), example_4);
     struct tacit_answer answer = capability_text(&record, example_5);
     CHECK(answer.refusal == 0 && answer.outcome == TACIT_DONE);
     CHECK(answer.lost == KIND(8) && answer.gained == 0);
@@ -87,7 +90,7 @@ static void example8(void)
     struct record record = after_example5();
     struct tacit_answer answer = capability_text(&record, "850F0001 00");
     CHECK(answer.outcome == TACIT_DONE && answer.lost == 0);
-    CHECK(answer.gained == (TACIT_ALL_KINDS & ~KIND(8)));
+    CHECK(answer.gained == (KIND(0) | KIND(1) | KIND(7) | KIND(9)));
 }
 
 static void example9(void)
@@ -100,7 +103,7 @@ static void example10(void)
 {
     expect_refusal(4, "06000000");
     struct record record = opened(APP(1), "86000000");
-    CHECK(kinds(&record) == TACIT_ALL_KINDS);
+    CHECK(kinds(&record) == FREE_KINDS);
 }
 
 static void example11(void)
@@ -127,9 +130,9 @@ static void example12(void)
 
 static void stored(void)
 {
-    struct record record = fresh(APP(4) | APP(7));
+    struct record record = holding(0, APP(4) | APP(7));
     struct record wanted =
-        record_of("1400 0100 00 07 4800 0000 0000 00 00 00000000 01000000");
+        record_of("1400 0100 00 07 4800 0000 0000 00 00 00000000 01000000 00 00");
     CHECK(wanted.length == TACIT_RECORD_LENGTH && same_record(&record, &wanted));
 }
 
@@ -141,29 +144,31 @@ static void stored_on(void)
                  (struct tacit_settings){.initiating = true, .active = true, .uses_tac = true,
                                          .protected_kinds = KIND(1) | KIND(9),
                                          .enabled = APP(7) | APP(8),
-                                         .first_number = 0x01020304}) == 0);
+                                         .first_number = 0x01020304,
+                                         .capabilities = 5}) == 0);
     hello(&record, 0xA1B2C3D4);
-    wanted = record_of("1400 0100 00 47 C000 0000 0202 00 00 D4C3B2A1 04030201");
+    wanted = record_of("1400 0100 00 47 C000 0000 0202 00 00 D4C3B2A1 04030201 05 00");
     CHECK(same_record(&record, &wanted));
-    initialization_text(&record, "85060001 80 850D0002 80 90 850F0009 80 00088000 000D8000");
-    wanted = record_of("1400 0100 01 77 C000 8010 0202 01 00 D4C3B2A1 04030201");
+    initialization_text(&record, "85060001 80 850D0002 80 90 850F0009 80 00088000 000D8000"
+                                 "85090001 00 89020001 80");
+    wanted = record_of("1400 0100 01 77 C000 8010 0202 01 00 D4C3B2A1 04030201 05 06");
     CHECK(same_record(&record, &wanted));
     CHECK(kinds(&record) == (KIND(1) | KIND(9)));
     uint8_t room[17] = {0};
     local_change(&record, 13, true, room, sizeof room);
-    wanted = record_of("1400 0100 01 77 C010 8010 0202 01 00 D4C3B2A1 05030201");
+    wanted = record_of("1400 0100 01 77 C010 8010 0202 01 00 D4C3B2A1 05030201 05 06");
     CHECK(same_record(&record, &wanted));
     mismatch(&record);
-    wanted = record_of("1400 0100 02 47 C010 0000 0202 00 00 D4C3B2A1 05030201");
+    wanted = record_of("1400 0100 02 47 C010 0000 0202 00 00 D4C3B2A1 05030201 05 00");
     CHECK(same_record(&record, &wanted));
     hello(&record, 0xA1B2C3D5);
-    wanted = record_of("1400 0100 00 47 C010 0000 0202 00 00 D5C3B2A1 05030201");
+    wanted = record_of("1400 0100 00 47 C010 0000 0202 00 00 D5C3B2A1 05030201 05 00");
     CHECK(same_record(&record, &wanted));
 }
 
 void examples(void)
 {
-    test("example 1: an empty area opens all ten kinds", example1);
+    test("example 1: an empty area opens every kind that needs no capability", example1);
     test("example 2: a list without one of ours", example2);
     test("example 3: a TAC without elements is a mismatch", example3);
     test("example 4: a list in another order than ours", example4);

@@ -164,22 +164,39 @@ bool same_record(const struct record *a, const struct record *b)
     return a->length == b->length && same(a->octets, b->octets, a->length);
 }
 
-struct record fresh(uint32_t enabled)
+struct record holding(uint32_t capabilities, uint32_t enabled)
 {
     struct record record = {{0}, TACIT_RECORD_LENGTH};
     CHECK(create(&record,
                  (struct tacit_settings){.initiating = true, .active = true, .uses_tac = true,
-                                         .enabled = enabled, .first_number = 1}) == 0);
+                                         .enabled = enabled, .first_number = 1,
+                                         .capabilities = capabilities}) == 0);
+    return record;
+}
+
+struct record fresh(uint32_t enabled)
+{
+    return holding(TACIT_ALL_CAPABILITIES, enabled);
+}
+
+struct record opened_holding(uint32_t capabilities, uint32_t enabled, const char *area)
+{
+    struct record record = holding(capabilities, enabled);
+    struct tacit_answer answer = initialization_text(&record, area);
+    CHECK(answer.refusal == 0 && answer.outcome == TACIT_DONE);
+    CHECK(state(&record) == TACIT_OPEN);
     return record;
 }
 
 struct record opened(uint32_t enabled, const char *area)
 {
-    struct record record = fresh(enabled);
-    struct tacit_answer answer = initialization_text(&record, area);
-    CHECK(answer.refusal == 0 && answer.outcome == TACIT_DONE);
-    CHECK(state(&record) == TACIT_OPEN);
-    return record;
+    return opened_holding(TACIT_ALL_CAPABILITIES, enabled, area);
+}
+
+uint32_t needed_for(uint32_t kind)
+{
+    static const uint8_t needed[TACIT_KINDS] = {[2] = 1, [3] = 2, [4] = 2, [5] = 4, [6] = 4};
+    return needed[kind];
 }
 
 /* ---- Calls ---- */
@@ -191,6 +208,7 @@ struct tacit_reading read_area(const uint8_t *area, size_t length)
     CHECK(same(lent, area, length) && margin_kept(AREA, length));
     CHECK(reading.refusal <= 5);
     CHECK(reading.dynamic <= 1);
+    CHECK(reading.capabilities <= 7 && (reading.holding & ~reading.capabilities) == 0);
     CHECK((size_t)reading.tac.start + reading.tac.length <= length);
     CHECK((size_t)reading.sac.start + reading.sac.length <= length);
     CHECK(reading.tac.length == 0 || reading.tac.length % 4 == 1);
@@ -198,7 +216,8 @@ struct tacit_reading read_area(const uint8_t *area, size_t length)
     CHECK(reading.tac.length != 0 || reading.tac.start == 0);
     CHECK(reading.sac.length != 0 || reading.sac.start == 0);
     if (reading.refusal != 0)
-        CHECK(reading.dynamic == 0 && reading.tac.length == 0 && reading.sac.length == 0);
+        CHECK(reading.dynamic == 0 && reading.capabilities == 0 && reading.tac.length == 0 &&
+              reading.sac.length == 0);
     return reading;
 }
 
@@ -232,6 +251,16 @@ struct tacit_permission permitted(const struct record *record, uint32_t kind)
     return answer;
 }
 
+/* What the capability that the kind needs comes to, where nothing comes before it. */
+static uint8_t reason_of_capability(const struct record *record, uint32_t kind)
+{
+    if ((needed_for(kind) & ~(uint32_t)record->octets[22]) != 0)
+        return TACIT_CAPABILITY_NOT_OURS;
+    if ((needed_for(kind) & ~(uint32_t)record->octets[23]) != 0)
+        return TACIT_CAPABILITY_NOT_THEIRS;
+    return TACIT_PERMITTED;
+}
+
 struct tacit_reason why_not(const struct record *record, uint32_t kind)
 {
     uint8_t *lent = lend(RECORD, record->octets, record->length);
@@ -239,15 +268,17 @@ struct tacit_reason why_not(const struct record *record, uint32_t kind)
     CHECK(same(lent, record->octets, record->length) && margin_kept(RECORD, record->length));
     struct tacit_permission permission = tacit_permitted(lent, record->length, kind);
     CHECK(answer.refusal == permission.refusal);
-    CHECK(answer.reason <= TACIT_NOT_LISTED);
+    CHECK(answer.reason <= TACIT_CAPABILITY_NOT_THEIRS);
     if (answer.refusal != 0) {
         CHECK(answer.reason == 0);
         return answer;
     }
     CHECK((answer.reason == TACIT_PERMITTED) == (permission.permitted == 1));
     CHECK((answer.reason == TACIT_NOT_OPEN) == (record->octets[4] != TACIT_OPEN));
-    if (answer.reason >= TACIT_NOT_ENABLED)
+    if (answer.reason == TACIT_NOT_ENABLED || answer.reason == TACIT_NOT_LISTED)
         CHECK((record->octets[5] & TACIT_FLAG_IN_FORCE) != 0);
+    if (answer.reason == TACIT_PERMITTED || answer.reason >= TACIT_CAPABILITY_NOT_OURS)
+        CHECK(answer.reason == reason_of_capability(record, kind));
     return answer;
 }
 
@@ -287,7 +318,8 @@ uint32_t kinds(const struct record *record)
 uint8_t create(struct record *record, struct tacit_settings settings)
 {
     bool fits = settings.protected_kinds <= TACIT_ALL_KINDS &&
-                settings.enabled <= TACIT_ALL_APPS && settings.wishes <= TACIT_ALL_SAC;
+                settings.enabled <= TACIT_ALL_APPS && settings.wishes <= TACIT_ALL_SAC &&
+                settings.capabilities <= TACIT_ALL_CAPABILITIES;
     uint8_t *lent = lend(RECORD, record->octets, record->length);
     uint8_t refusal = tacit_create(lent, record->length, settings);
     CHECK(margin_kept(RECORD, record->length));
@@ -300,6 +332,7 @@ uint8_t create(struct record *record, struct tacit_settings settings)
     CHECK(state(record) == TACIT_READY);
     CHECK(retry_interval(record).interval == 0);
     CHECK(kinds(record) == 0);
+    CHECK(record->octets[22] == settings.capabilities && record->octets[23] == 0);
     return refusal;
 }
 
@@ -324,6 +357,7 @@ static void check_event(struct tacit_answer answer, const struct record *before,
         CHECK(state(after) != TACIT_OPEN && answer.written == 0);
     if (was_sound) {
         CHECK(sound(after));
+        CHECK(before->octets[22] == after->octets[22]);
         retry_interval(after);
     }
 }
@@ -414,7 +448,7 @@ static void check_message(const uint8_t *message, uint32_t number, uint32_t ta_i
     struct tacit_reading reading =
         read_area(message + TACIT_MESSAGE_AREA, TACIT_MESSAGE_LENGTH - TACIT_MESSAGE_AREA);
     CHECK(reading.refusal == 0 && reading.dynamic == 0 && reading.sac.length == 0);
-    CHECK(reading.tac.start == 4 && reading.tac.length == 5);
+    CHECK(reading.capabilities == 0 && reading.tac.start == 4 && reading.tac.length == 5);
 }
 
 struct tacit_answer local_change(struct record *record, uint32_t ta_id, bool on, uint8_t *room,
@@ -488,6 +522,7 @@ int main(void)
     rows();
     totals();
     wishes();
+    capabilities();
     refusals();
     lengths();
     numbers();
@@ -501,6 +536,7 @@ int main(void)
     rows();
     totals();
     wishes();
+    capabilities();
     refusals();
     lengths();
     numbers();

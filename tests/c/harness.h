@@ -57,11 +57,24 @@ struct octets hex(const char *text);
 struct record record_of(const char *text);
 bool same_record(const struct record *a, const struct record *b);
 
-/* A fresh initiating, active session that uses TAC, with message number 1. */
+/* A fresh initiating, active session that uses TAC, holds these, and has message number 1. */
+struct record holding(uint32_t capabilities, uint32_t enabled);
+
+/* That session, which holds all three capabilities. */
 struct record fresh(uint32_t enabled);
 
-/* That session after an Initialization with this area, which must open it. */
+/* These sessions after an Initialization with this area, which must open them. */
+struct record opened_holding(uint32_t capabilities, uint32_t enabled, const char *area);
 struct record opened(uint32_t enabled, const char *area);
+
+/* A part of an area: P2MP, MP2MP and HSMP, with S = 1. */
+#define ALL_THREE "85080001 80 85090001 80 89020001 80 "
+
+/* The kinds that need no capability. */
+#define FREE_KINDS UINT32_C(0x383)
+
+/* The capability that a kind needs, as a set, without the library. */
+uint32_t needed_for(uint32_t kind);
 
 /* ---- Calls ---- */
 
@@ -179,6 +192,7 @@ void rules(void);
 void rows(void);
 void totals(void);
 void wishes(void);
+void capabilities(void);
 void refusals(void);
 void lengths(void);
 void numbers(void);

@@ -231,7 +231,7 @@ static void full_areas(void)
     record = opened(APP(7), "");
     CHECK(capability(&record, sac, sizeof sac).outcome == TACIT_DONE);
     CHECK(sac[sizeof sac - 1] == 0xC0);
-    CHECK(kinds(&record) == (TACIT_ALL_KINDS & ~TACIT_KIND_SET(8)));
+    CHECK(kinds(&record) == (FREE_KINDS & ~TACIT_KIND_SET(8)));
 }
 
 enum { LARGEST_ROOM = 40 };

@@ -48,7 +48,7 @@ static void applications(void)
 
 static void kinds_of_label(void)
 {
-    struct record record = opened(0, "");
+    struct record record = opened(0, ALL_THREE);
     for (unsigned i = 0; i < NUMBERS; i++) {
         uint32_t kind = number(i);
         trying("kind %lu", (unsigned long)kind);
@@ -113,64 +113,75 @@ static void kept_wishes(void)
     }
 }
 
-static uint8_t created(uint32_t protected_kinds, uint32_t enabled, uint32_t wishes)
+static uint8_t created(uint32_t protected_kinds, uint32_t enabled, uint32_t wishes,
+                       uint32_t capabilities)
 {
     struct record record = {{0}, TACIT_RECORD_LENGTH};
     return create(&record, (struct tacit_settings){.uses_tac = true,
                                                    .protected_kinds = protected_kinds,
                                                    .enabled = enabled,
-                                                   .wishes = wishes});
+                                                   .wishes = wishes,
+                                                   .capabilities = capabilities});
 }
 
 static void sets(void)
 {
     const uint32_t kinds = TACIT_ALL_KINDS, apps = TACIT_ALL_APPS, sac = TACIT_ALL_SAC;
+    const uint32_t three = TACIT_ALL_CAPABILITIES;
     for (unsigned bit = 0; bit < 32; bit++) {
         uint32_t set = UINT32_C(1) << bit;
         trying("a set with bit %u", bit);
-        CHECK(created(set, 0, 0) == (bit <= 9 ? 0 : 6));
-        CHECK(created(0, set, 0) == (bit <= 12 ? 0 : 6));
-        CHECK(created(0, 0, set) == (bit <= 3 ? 0 : 6));
-        CHECK(created(kinds | set, apps, sac) == (bit <= 9 ? 0 : 6));
-        CHECK(created(kinds, apps | set, sac) == (bit <= 12 ? 0 : 6));
-        CHECK(created(kinds, apps, sac | set) == (bit <= 3 ? 0 : 6));
+        CHECK(created(set, 0, 0, 0) == (bit <= 9 ? 0 : 6));
+        CHECK(created(0, set, 0, 0) == (bit <= 12 ? 0 : 6));
+        CHECK(created(0, 0, set, 0) == (bit <= 3 ? 0 : 6));
+        CHECK(created(0, 0, 0, set) == (bit <= 2 ? 0 : 6));
+        CHECK(created(kinds | set, apps, sac, three) == (bit <= 9 ? 0 : 6));
+        CHECK(created(kinds, apps | set, sac, three) == (bit <= 12 ? 0 : 6));
+        CHECK(created(kinds, apps, sac | set, three) == (bit <= 3 ? 0 : 6));
+        CHECK(created(kinds, apps, sac, three | set) == (bit <= 2 ? 0 : 6));
     }
     for (unsigned i = 0; i < OTHERS; i++) {
         struct tacit_settings settings = {.initiating = true,
                                           .uses_tac = true,
                                           .protected_kinds = any_number(),
                                           .enabled = any_number(),
-                                          .wishes = any_number()};
-        trying("sets %08lX, %08lX and %08lX", (unsigned long)settings.protected_kinds,
-               (unsigned long)settings.enabled, (unsigned long)settings.wishes);
+                                          .wishes = any_number(),
+                                          .capabilities = any_number()};
+        trying("sets %08lX, %08lX, %08lX and %08lX", (unsigned long)settings.protected_kinds,
+               (unsigned long)settings.enabled, (unsigned long)settings.wishes,
+               (unsigned long)settings.capabilities);
         struct record record = {{0}, TACIT_RECORD_LENGTH};
         CHECK(create(&record, settings) == 6);
         settings.protected_kinds &= kinds;
         settings.enabled &= apps;
         settings.wishes &= sac;
+        settings.capabilities &= three;
         CHECK(create(&record, settings) == 0);
         struct tacit_session session = session_in(&record);
         CHECK(session.enabled == settings.enabled && session.protects == settings.protected_kinds);
+        CHECK(session.ours == settings.capabilities && session.theirs == 0);
         CHECK(session.disabled == 0);
     }
 }
 
 /* The kinds that each application opens, from TA-Id 1 on; 8 the protected ones. */
 static const uint16_t opens[14] = {0,     0x001, 0x002, 0x07C, 0x001, 0x002, 0x080,
-                                   0x100, 0x281, 0x000, 0x200, 0x07C, 0x001, 0x002};
+                                   0x100, 0x2A1, 0x000, 0x200, 0x07C, 0x001, 0x002};
 
-/* Alone and in common. */
+/* Alone and in common, between ends that hold all three capabilities. */
 static void table(void)
 {
     for (uint32_t ours = 1; ours <= 13; ours++) {
         for (uint32_t theirs = 1; theirs <= 13; theirs++) {
             trying("ours %lu, the peer's %lu", (unsigned long)ours, (unsigned long)theirs);
-            uint8_t area[9] = {0x85, 0x0F, 0, 5, 0x80, 0, (uint8_t)theirs, 0x80, 0};
+            struct octets area = hex("850F0005 80 00008000" ALL_THREE);
+            area.at[6] = (uint8_t)theirs;
             struct record record = {{0}, TACIT_RECORD_LENGTH};
             create(&record,
                    (struct tacit_settings){.initiating = true, .active = true, .uses_tac = true,
-                                           .protected_kinds = opens[8], .enabled = APP(ours)});
-            struct tacit_answer answer = initialization(&record, area, sizeof area);
+                                           .protected_kinds = opens[8], .enabled = APP(ours),
+                                           .capabilities = TACIT_ALL_CAPABILITIES});
+            struct tacit_answer answer = initialization(&record, area.at, area.length);
             CHECK(answer.outcome == (ours == theirs ? TACIT_DONE : TACIT_MISMATCH));
             CHECK(kinds(&record) == (ours == theirs ? opens[ours] : 0));
         }
@@ -183,7 +194,14 @@ static void reasons(void)
     for (uint32_t ta_id = 1; ta_id <= 13; ta_id++) {
         for (unsigned sets = 0; sets < 4; sets++) {
             bool enabled = (sets & 1) != 0, listed = (sets & 2) != 0;
-            struct tacit_session session = {TACIT_OPEN, 0x17, 0, APP(9), APP(9), opens[8], 0, 1};
+            struct tacit_session session = {.state = TACIT_OPEN,
+                                            .flags = 0x17,
+                                            .enabled = APP(9),
+                                            .listed = APP(9),
+                                            .protects = opens[8],
+                                            .ours = TACIT_ALL_CAPABILITIES,
+                                            .theirs = TACIT_ALL_CAPABILITIES,
+                                            .next = 1};
             session.enabled |= (uint16_t)(enabled ? APP(ta_id) : 0);
             session.listed |= (uint16_t)(listed ? APP(ta_id) : 0);
             struct record record = record_for(session);

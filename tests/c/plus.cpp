@@ -1,4 +1,5 @@
-// The header in C++17, its assertions on sizes included: a session, a row with totals, a wish.
+// The header in C++17, its assertions on sizes included: a session, a row with totals, a wish,
+// a capability.
 #include "tacit.h"
 
 #include <cstring>
@@ -82,6 +83,22 @@ static bool one_wish(uint8_t *record, size_t record_len, uint32_t wishes)
            session.next == 3 && std::strcmp(tacit_sac_app_text(1), "IPv4 prefixes") == 0;
 }
 
+// The peer announces P2MP, and its labels may be sent.
+static bool one_capability(uint8_t *record, size_t record_len)
+{
+    static const uint8_t p2mp[] = {0x85, 0x08, 0, 1, 0x80};
+    const enum tacit_capability held = TACIT_CAPABILITY_P2MP;
+    const tacit_reading reading = tacit_read(p2mp, sizeof p2mp);
+    const tacit_reason why = tacit_why_not(record, record_len, TACIT_KIND_P2MP);
+    if (reading.capabilities != held || reading.holding != held ||
+        why.reason != TACIT_CAPABILITY_NOT_THEIRS)
+        return false;
+    const tacit_answer answer = tacit_capability(record, record_len, p2mp, sizeof p2mp);
+    const tacit_session session = tacit_load(record, record_len).session;
+    return answer.gained == TACIT_KIND_SET(TACIT_KIND_P2MP) && session.ours == held &&
+           session.theirs == held && std::strcmp(tacit_capability_text(held), "P2MP") == 0;
+}
+
 int main()
 {
     uint8_t record[TACIT_RECORD_LENGTH], stored[TACIT_RECORD_LENGTH];
@@ -90,13 +107,15 @@ int main()
     settings.enabled = TACIT_APP_SET(TACIT_APP_FEC129_PW);
     settings.first_number = 1;
     settings.wishes = TACIT_SAC_SET(TACIT_SAC_IPV6_PREFIX);
+    settings.capabilities = TACIT_CAPABILITY_P2MP;
     if (tacit_create(record, sizeof record, settings) != TACIT_NOT_REFUSED)
         return 1;
     if (tacit_store(tacit_load(record, sizeof record).session, stored, sizeof stored) != 0 ||
         std::memcmp(record, stored, sizeof record) != 0)
         return 1;
     return one_row(record, sizeof record) && one_session(record, sizeof record) &&
-                   one_wish(record, sizeof record, settings.wishes)
+                   one_wish(record, sizeof record, settings.wishes) &&
+                   one_capability(record, sizeof record)
                ? 0
                : 1;
 }

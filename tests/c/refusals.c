@@ -180,7 +180,7 @@ static void of_local_changes(void)
     initialization_text(&record, "");
     answer = local_change(&record, 7, false, room, 0);
     CHECK(answer.refusal == 0 && answer.outcome == TACIT_DONE && answer.written == 0);
-    CHECK(kinds(&record) == TACIT_ALL_KINDS);
+    CHECK(kinds(&record) == FREE_KINDS);
 }
 
 static void of_creation(void)
@@ -188,15 +188,17 @@ static void of_creation(void)
     struct record record = {{0}, TACIT_RECORD_LENGTH};
     struct record shorter = {{0}, TACIT_RECORD_LENGTH - 1};
     const struct tacit_settings over = {
-        .protected_kinds = 0x400, .enabled = 0x2000, .wishes = 0x10};
+        .protected_kinds = 0x400, .enabled = 0x2000, .wishes = 0x10, .capabilities = 0x08};
     CHECK(create(&shorter, over) == 10);
     CHECK(create(&record, over) == 6);
     CHECK(create(&record, (struct tacit_settings){.protected_kinds = 0x400}) == 6);
     CHECK(create(&record, (struct tacit_settings){.enabled = 0x2000}) == 6);
     CHECK(create(&record, (struct tacit_settings){.wishes = 0x10}) == 6);
+    CHECK(create(&record, (struct tacit_settings){.capabilities = 0x08}) == 6);
     CHECK(create(&record, (struct tacit_settings){.protected_kinds = 0x3FF,
                                                   .enabled = 0x1FFF,
-                                                  .wishes = 0x0F}) == 0);
+                                                  .wishes = 0x0F,
+                                                  .capabilities = 0x07}) == 0);
 }
 
 /* 10, 15, Unchanged, 7, 9, 8 in this order, by taking away one cause at a time. */

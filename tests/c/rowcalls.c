@@ -15,7 +15,7 @@ bool same_session(struct tacit_session a, struct tacit_session b)
 {
     return a.state == b.state && a.flags == b.flags && a.disabled == b.disabled &&
            a.enabled == b.enabled && a.listed == b.listed && a.protects == b.protects &&
-           a.hello == b.hello && a.next == b.next;
+           a.ours == b.ours && a.theirs == b.theirs && a.hello == b.hello && a.next == b.next;
 }
 
 static void put(uint8_t *octets, uint32_t number, int count)
@@ -41,6 +41,8 @@ struct record record_for(struct tacit_session session)
     record.octets[12] = session.disabled;
     put(record.octets + 14, session.hello, 4);
     put(record.octets + 18, session.next, 4);
+    record.octets[22] = session.ours;
+    record.octets[23] = session.theirs;
     return record;
 }
 
@@ -53,6 +55,8 @@ struct tacit_session session_in(const struct record *record)
         .enabled = (uint16_t)get(record->octets + 6, 2),
         .listed = (uint16_t)get(record->octets + 8, 2),
         .protects = (uint16_t)get(record->octets + 10, 2),
+        .ours = record->octets[22],
+        .theirs = record->octets[23],
         .hello = get(record->octets + 14, 4),
         .next = get(record->octets + 18, 4),
     };
@@ -85,6 +89,8 @@ static void lay_out(uint8_t *octets, const struct tacit_session *session, uint8_
     LAY(enabled);
     LAY(listed);
     LAY(protects);
+    LAY(ours);
+    LAY(theirs);
     LAY(hello);
     LAY(next);
 #undef LAY

@@ -13,14 +13,15 @@ static const char lists_both[] = "85060001 80 850F0009 80 00048000 00078000";
 
 static const struct tacit_limits nobody = {{0}};
 
-/* A fresh session that enables 4 and 7, with message number 1. */
+/* A fresh session that enables 4 and 7 and holds P2MP, with message number 1. */
 static struct tacit_session session_of(bool initiating, bool active, bool uses_tac, bool drops)
 {
     struct record record = {{0}, TACIT_RECORD_LENGTH};
     CHECK(create(&record,
                  (struct tacit_settings){.initiating = initiating, .active = active,
                                          .uses_tac = uses_tac, .drops = drops,
-                                         .enabled = APP(4) | APP(7), .first_number = 1}) == 0);
+                                         .enabled = APP(4) | APP(7), .first_number = 1,
+                                         .capabilities = TACIT_CAPABILITY_P2MP}) == 0);
     return load(&record).session;
 }
 
@@ -86,19 +87,19 @@ static void counting(void)
         uint32_t of_4, of_7;
         const char *record;
     } rows[] = {
-        {1, 1, "1400 0100 01 14 4800 4800 0000 00 00 00000000 01000000"},
-        {1, 0, "1400 0100 01 34 4800 0800 0000 00 00 00000000 01000000"},
-        {0, 1, "1400 0100 01 14 4000 4800 0000 00 00 00000000 01000000"},
-        {1, 0, "1400 0100 01 14 0810 4810 0000 00 00 00000000 01000000"},
-        {0, 0, "1400 0100 01 14 4810 0010 0000 00 00 00000000 01000000"},
+        {1, 1, "1400 0100 01 14 4800 4800 0000 00 00 00000000 01000000 00 00"},
+        {1, 0, "1400 0100 01 34 4800 0800 0000 00 00 00000000 01000000 00 00"},
+        {0, 1, "1400 0100 01 14 4000 4800 0000 00 00 00000000 01000000 00 00"},
+        {1, 0, "1400 0100 01 14 0810 4810 0000 00 00 00000000 01000000 00 00"},
+        {0, 0, "1400 0100 01 14 4810 0010 0000 00 00 00000000 01000000 00 00"},
         /* With every kind disabled it is still used. */
-        {1, 1, "1400 0100 01 14 4800 4800 0000 0F 00 00000000 01000000"},
+        {1, 1, "1400 0100 01 14 4800 4800 0000 0F 00 00000000 01000000 00 00"},
         /* Not in force, TAC used or not; Ready, Held, Gone. */
-        {0, 0, "1400 0100 01 04 4800 0000 0000 00 00 00000000 01000000"},
-        {0, 0, "1400 0100 01 00 4800 0000 0000 00 00 00000000 01000000"},
-        {0, 0, "1400 0100 00 04 4800 0000 0000 00 00 00000000 01000000"},
-        {0, 0, "1400 0100 02 06 4800 0000 0000 00 00 00000000 01000000"},
-        {0, 0, "1400 0100 03 0F 4800 0000 0000 00 00 00000000 01000000"},
+        {0, 0, "1400 0100 01 04 4800 0000 0000 00 00 00000000 01000000 00 00"},
+        {0, 0, "1400 0100 01 00 4800 0000 0000 00 00 00000000 01000000 00 00"},
+        {0, 0, "1400 0100 00 04 4800 0000 0000 00 00 00000000 01000000 00 00"},
+        {0, 0, "1400 0100 02 06 4800 0000 0000 00 00 00000000 01000000 00 00"},
+        {0, 0, "1400 0100 03 0F 4800 0000 0000 00 00 00000000 01000000 00 00"},
     };
     const size_t count = sizeof rows / sizeof *rows;
     struct sessions row = {.length = count};
@@ -192,7 +193,8 @@ static void turned_away(void)
         struct sessions told = row;
         row_mismatch(&told, 0);
         struct tacit_answer answer =
-            row_initialization(&row, 0, nobody, "85060001 80 850F0005 80 00048000 850D0002 80 C0");
+            row_initialization(&row, 0, nobody,
+                               ALL_THREE "85060001 80 850F0005 80 00048000 850D0002 80 C0");
         CHECK(answer.refusal == 0 && answer.outcome == TACIT_AT_LIMIT);
         CHECK(answer.lost == 0 && answer.gained == 0 && answer.written == 0);
         CHECK(row.at[0].state == wanted && same_session(row.at[0], told.at[0]));
@@ -252,7 +254,7 @@ static void without_tac(void)
 {
     struct sessions row = {.at = {session_of(false, false, false, false)}, .length = 1};
     struct tacit_answer answer = row_initialization(&row, 0, nobody, lists_4);
-    CHECK(answer.outcome == TACIT_DONE && answer.gained == TACIT_ALL_KINDS);
+    CHECK(answer.outcome == TACIT_DONE && answer.gained == FREE_KINDS);
     CHECK(row_count(&row, 4).count == 0);
 }
 
@@ -378,6 +380,12 @@ static void unsound_anywhere(void)
         {.state = TACIT_HELD, .flags = 0x0F},
         {.state = TACIT_GONE, .flags = 0x07},
         {.state = TACIT_GONE, .flags = 0x4F},
+        {.flags = 0x04, .ours = 0x08},
+        {.flags = 0x04, .theirs = 0x01},
+        {.state = TACIT_OPEN, .flags = 0x04, .ours = 0x80},
+        {.state = TACIT_OPEN, .flags = 0x04, .ours = 0x07, .theirs = 0x08},
+        {.state = TACIT_HELD, .flags = 0x06, .ours = 0x07, .theirs = 0x02},
+        {.state = TACIT_GONE, .flags = 0x0F, .ours = 0x07, .theirs = 0x04},
     };
     for (size_t i = 0; i < sizeof rows / sizeof *rows; i++) {
         trying("session %zu that is not sound", i);
@@ -448,11 +456,11 @@ static void neighbours(void)
 static void loading_and_storing(void)
 {
     static const char *const rows[] = {
-        "1400 0100 00 07 4800 0000 0000 00 00 00000000 01000000",
-        "1400 0100 00 4D FF1F 0000 FF03 00 00 FFFFFFFF FFFFFFFF",
-        "1400 0100 01 77 C010 8010 0202 05 00 D4C3B2A1 04030201",
-        "1400 0100 02 47 4800 0000 0102 00 00 05000000 01000000",
-        "1400 0100 03 0F 4800 0000 0000 00 00 00000000 01000000",
+        "1400 0100 00 07 4800 0000 0000 00 00 00000000 01000000 00 00",
+        "1400 0100 00 4D FF1F 0000 FF03 00 00 FFFFFFFF FFFFFFFF 07 00",
+        "1400 0100 01 77 C010 8010 0202 05 00 D4C3B2A1 04030201 05 06",
+        "1400 0100 02 47 4800 0000 0102 00 00 05000000 01000000 02 00",
+        "1400 0100 03 0F 4800 0000 0000 00 00 00000000 01000000 00 00",
     };
     for (size_t i = 0; i < sizeof rows / sizeof *rows; i++) {
         trying("record %s", rows[i]);

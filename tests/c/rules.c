@@ -1,6 +1,8 @@
 /* The rules for lists and states, row by row. */
 #include "harness.h"
 
+#include <stdio.h>
+
 #define APP(n) TACIT_APP_SET(n)
 #define ALL 0x3FF
 
@@ -8,22 +10,30 @@ struct row {
     const char *first;  /* the Initialization's area */
     const char *then;   /* a Capability message's, or NULL */
     uint8_t outcome;    /* of the last */
-    uint32_t kinds;     /* permitted afterwards */
+    uint32_t kinds;     /* permitted afterwards, where both ends hold all three capabilities */
 };
 
+static void expect_row(uint32_t enabled, const struct row *row, const char *held)
+{
+    char area[256];
+    trying("area %s%s, then %s", held, row->first, row->then ? row->then : "nothing");
+    snprintf(area, sizeof area, "%s%s", held, row->first);
+    struct record record = fresh(enabled);
+    struct tacit_answer answer = initialization_text(&record, area);
+    if (row->then != NULL) {
+        CHECK(answer.refusal == 0 && answer.outcome == TACIT_DONE);
+        answer = capability_text(&record, row->then);
+    }
+    CHECK(answer.refusal == 0 && answer.outcome == row->outcome);
+    CHECK(kinds(&record) == (held[0] != 0 ? row->kinds : row->kinds & FREE_KINDS));
+}
+
+/* With a peer that holds all three capabilities, and with one that holds none. */
 static void expect_rows(uint32_t enabled, const struct row *rows, size_t count)
 {
     for (size_t i = 0; i < count; i++) {
-        const struct row *row = &rows[i];
-        trying("area %s, then %s", row->first, row->then ? row->then : "nothing");
-        struct record record = fresh(enabled);
-        struct tacit_answer answer = initialization_text(&record, row->first);
-        if (row->then != NULL) {
-            CHECK(answer.refusal == 0 && answer.outcome == TACIT_DONE);
-            answer = capability_text(&record, row->then);
-        }
-        CHECK(answer.refusal == 0 && answer.outcome == row->outcome);
-        CHECK(kinds(&record) == row->kinds);
+        expect_row(enabled, &rows[i], ALL_THREE);
+        expect_row(enabled, &rows[i], "");
     }
 }
 
@@ -112,7 +122,7 @@ static void tac(void)
 /* A list that was given up is not remembered when negotiation begins again. */
 static void given_up(void)
 {
-    struct record record = opened(APP(4) | APP(7), "850F0009 80 00048000 00078000");
+    struct record record = opened(APP(4) | APP(7), ALL_THREE "850F0009 80 00048000 00078000");
     CHECK(capability_text(&record, "850F0001 00").gained == (ALL & ~0x101));
     CHECK(capability_text(&record, "850F0005 80 00078000").outcome == TACIT_DONE);
     CHECK(kinds(&record) == 0x100);
@@ -124,8 +134,9 @@ static void without_tac(void)
     struct record record = {{0}, TACIT_RECORD_LENGTH};
     create(&record,
            (struct tacit_settings){.initiating = true, .active = true, .enabled = APP(4),
-                                   .first_number = 1});
-    CHECK(initialization_text(&record, "850F0001 80 850D0002 80 90").outcome == TACIT_DONE);
+                                   .first_number = 1, .capabilities = TACIT_ALL_CAPABILITIES});
+    CHECK(initialization_text(&record, ALL_THREE "850F0001 80 850D0002 80 90").outcome ==
+          TACIT_DONE);
     CHECK(kinds(&record) == (ALL & ~0x001));
     CHECK(capability_text(&record, "850F0005 80 00040000").outcome == TACIT_DONE);
     CHECK(capability_text(&record, "850F0004 80 000400").refusal == 3);
@@ -146,7 +157,7 @@ static void dynamic(void)
     /* It is asked also where negotiation is not in force, and then written. */
     record = opened(APP(4), "");
     CHECK(local_change(&record, 5, true, room, sizeof room).refusal == 9);
-    record = opened(APP(4), "85060001 80");
+    record = opened(APP(4), ALL_THREE "85060001 80");
     CHECK(local_change(&record, 4, false, room, sizeof room).written == 17);
     CHECK(kinds(&record) == ALL);
 }
@@ -174,12 +185,13 @@ static void held_and_gone(void)
 static void left(void)
 {
     struct record record =
-        opened(APP(4) | APP(7), "85060001 80 850F0005 80 00048000 850D0002 80 90");
+        opened(APP(4) | APP(7), ALL_THREE "85060001 80 850F0005 80 00048000 850D0002 80 90");
     hello(&record, 3);
     CHECK(closed(&record).outcome == TACIT_DONE);
-    struct record wanted = record_of("1400 0100 00 47 4800 0000 0000 00 00 03000000 01000000");
+    struct record wanted =
+        record_of("1400 0100 00 47 4800 0000 0000 00 00 03000000 01000000 07 00");
     CHECK(same_record(&record, &wanted));
-    CHECK(initialization_text(&record, "").gained == ALL);
+    CHECK(initialization_text(&record, ALL_THREE).gained == ALL);
 }
 
 /* Session Protection opens what was protected at creation, and ICCP nothing. */
@@ -191,12 +203,13 @@ static void common_without_kinds(void)
     CHECK(capability_text(&record, "850F0005 80 00090000").outcome == TACIT_MISMATCH);
     create(&record,
            (struct tacit_settings){.initiating = true, .active = true, .uses_tac = true,
-                                   .protected_kinds = 0x2A5, .enabled = APP(8), .first_number = 1});
-    initialization_text(&record, "850F0005 80 00088000");
+                                   .protected_kinds = 0x2A5, .enabled = APP(8), .first_number = 1,
+                                   .capabilities = TACIT_ALL_CAPABILITIES});
+    initialization_text(&record, ALL_THREE "850F0005 80 00088000");
     CHECK(kinds(&record) == 0x2A5);
 }
 
-/* Why each kind may not be sent, a digit for each from kind 0 on. */
+/* Why each kind may not be sent, a digit for each from kind 0 on; all capabilities are held. */
 static void why(void)
 {
     static const struct {
@@ -204,25 +217,25 @@ static void why(void)
         const char *reasons;
     } rows[] = {
         /* Ready, Held, Gone. */
-        {"1400 0100 00 47 4800 0000 0000 00 00 05000000 01000000", "1111111111"},
-        {"1400 0100 02 47 4800 0000 0000 00 00 05000000 01000000", "1111111111"},
-        {"1400 0100 03 0F 4800 0000 0000 00 00 00000000 01000000", "1111111111"},
+        {"1400 0100 00 47 4800 0000 0000 00 00 05000000 01000000 07 00", "1111111111"},
+        {"1400 0100 02 47 4800 0000 0000 00 00 05000000 01000000 07 00", "1111111111"},
+        {"1400 0100 03 0F 4800 0000 0000 00 00 00000000 01000000 07 00", "1111111111"},
         /* Open and not in force: what is enabled does not count, nor that nothing is listed. */
-        {"1400 0100 01 07 4800 0000 0000 00 00 00000000 01000000", "0000000000"},
-        {"1400 0100 01 07 0000 0000 0000 00 00 00000000 01000000", "0000000000"},
-        {"1400 0100 01 07 4800 0000 0000 09 00 00000000 01000000", "2000000020"},
+        {"1400 0100 01 07 4800 0000 0000 00 00 00000000 01000000 07 07", "0000000000"},
+        {"1400 0100 01 07 0000 0000 0000 00 00 00000000 01000000 07 07", "0000000000"},
+        {"1400 0100 01 07 4800 0000 0000 09 00 00000000 01000000 07 07", "2000000020"},
         /* In force, 4 and 7 enabled: the peer lists 4; 4 and 6; 4 and 7. */
-        {"1400 0100 01 17 4800 0800 0000 00 00 00000000 01000000", "0333333343"},
-        {"1400 0100 01 17 4800 2800 0000 00 00 00000000 01000000", "0333333343"},
-        {"1400 0100 01 17 4800 4800 0000 00 00 00000000 01000000", "0333333303"},
+        {"1400 0100 01 17 4800 0800 0000 00 00 00000000 01000000 07 07", "0333333343"},
+        {"1400 0100 01 17 4800 2800 0000 00 00 00000000 01000000 07 07", "0333333343"},
+        {"1400 0100 01 17 4800 4800 0000 00 00 00000000 01000000 07 07", "0333333303"},
         /* 1, 4 and 7 enabled: one that is listed is enough, 12 is not one of them. */
-        {"1400 0100 01 17 4900 0100 0000 00 00 00000000 01000000", "0333333343"},
-        {"1400 0100 01 17 4900 4008 0000 00 00 00000000 01000000", "4333333303"},
+        {"1400 0100 01 17 4900 0100 0000 00 00 00000000 01000000 07 07", "0333333343"},
+        {"1400 0100 01 17 4900 4008 0000 00 00 00000000 01000000 07 07", "4333333303"},
         /* Disabled comes before not enabled and not listed. */
-        {"1400 0100 01 17 4800 0800 0000 0F 00 00000000 01000000", "2233333223"},
+        {"1400 0100 01 17 4800 0800 0000 0F 00 00000000 01000000 07 07", "2233333223"},
         /* 8 and 9 enabled, kinds 0, 7 and 9 protected: the peer lists 8; 9, which opens none. */
-        {"1400 0100 01 17 8001 8000 8102 00 00 00000000 01000000", "0333333030"},
-        {"1400 0100 01 17 8001 0001 8102 00 00 00000000 01000000", "4333333434"},
+        {"1400 0100 01 17 8001 8000 8102 00 00 00000000 01000000 07 07", "0333333030"},
+        {"1400 0100 01 17 8001 0001 8102 00 00 00000000 01000000 07 07", "4333333434"},
     };
     for (size_t i = 0; i < sizeof rows / sizeof *rows; i++) {
         struct record record = record_of(rows[i].record);
@@ -241,59 +254,59 @@ static void soundness(void)
         bool sound;
         const char *record;
     } rows[] = {
-        {true, "1400 0100 00 00 0000 0000 0000 00 00 00000000 00000000"},
-        {true, "1400 0100 00 0F FF1F 0000 FF03 00 00 00000000 FFFFFFFF"},
-        {false, "1500 0100 00 07 4800 0000 0000 00 00 00000000 01000000"},
-        {false, "1401 0100 00 07 4800 0000 0000 00 00 00000000 01000000"},
-        {false, "1400 0200 00 07 4800 0000 0000 00 00 00000000 01000000"},
-        {false, "1400 0101 00 07 4800 0000 0000 00 00 00000000 01000000"},
-        {false, "1400 0100 04 07 4800 0000 0000 00 00 00000000 01000000"},
-        {false, "1400 0100 00 07 4800 0000 0000 00 01 00000000 01000000"},
+        {true, "1400 0100 00 00 0000 0000 0000 00 00 00000000 00000000 00 00"},
+        {true, "1400 0100 00 0F FF1F 0000 FF03 00 00 00000000 FFFFFFFF 00 00"},
+        {false, "1500 0100 00 07 4800 0000 0000 00 00 00000000 01000000 00 00"},
+        {false, "1401 0100 00 07 4800 0000 0000 00 00 00000000 01000000 00 00"},
+        {false, "1400 0200 00 07 4800 0000 0000 00 00 00000000 01000000 00 00"},
+        {false, "1400 0101 00 07 4800 0000 0000 00 00 00000000 01000000 00 00"},
+        {false, "1400 0100 04 07 4800 0000 0000 00 00 00000000 01000000 00 00"},
+        {false, "1400 0100 00 07 4800 0000 0000 00 01 00000000 01000000 00 00"},
         /* Spare bits. */
-        {false, "1400 0100 00 87 4800 0000 0000 00 00 00000000 01000000"},
-        {false, "1400 0100 00 07 4820 0000 0000 00 00 00000000 01000000"},
-        {false, "1400 0100 00 07 4800 0000 0004 00 00 00000000 01000000"},
-        {true, "1400 0100 01 17 FF1F FF1F FF03 0F 00 00000000 01000000"},
-        {false, "1400 0100 01 17 FF1F FF3F FF03 0F 00 00000000 01000000"},
-        {false, "1400 0100 01 17 FF1F FF1F FF03 1F 00 00000000 01000000"},
+        {false, "1400 0100 00 87 4800 0000 0000 00 00 00000000 01000000 00 00"},
+        {false, "1400 0100 00 07 4820 0000 0000 00 00 00000000 01000000 00 00"},
+        {false, "1400 0100 00 07 4800 0000 0004 00 00 00000000 01000000 00 00"},
+        {true, "1400 0100 01 17 FF1F FF1F FF03 0F 00 00000000 01000000 00 00"},
+        {false, "1400 0100 01 17 FF1F FF3F FF03 0F 00 00000000 01000000 00 00"},
+        {false, "1400 0100 01 17 FF1F FF1F FF03 1F 00 00000000 01000000 00 00"},
         /* In force. */
-        {true, "1400 0100 01 17 4800 4000 0000 00 00 00000000 01000000"},
-        {false, "1400 0100 00 17 4800 4000 0000 00 00 00000000 01000000"},
-        {false, "1400 0100 02 17 4800 4000 0000 00 00 00000000 01000000"},
-        {false, "1400 0100 03 1F 4800 4000 0000 00 00 00000000 01000000"},
-        {false, "1400 0100 01 13 4800 4000 0000 00 00 00000000 01000000"},
-        {false, "1400 0100 01 17 0800 4000 0000 00 00 00000000 01000000"},
-        {false, "1400 0100 01 17 0000 4000 0000 00 00 00000000 01000000"},
-        {false, "1400 0100 01 17 4800 0000 0000 00 00 00000000 01000000"},
+        {true, "1400 0100 01 17 4800 4000 0000 00 00 00000000 01000000 00 00"},
+        {false, "1400 0100 00 17 4800 4000 0000 00 00 00000000 01000000 00 00"},
+        {false, "1400 0100 02 17 4800 4000 0000 00 00 00000000 01000000 00 00"},
+        {false, "1400 0100 03 1F 4800 4000 0000 00 00 00000000 01000000 00 00"},
+        {false, "1400 0100 01 13 4800 4000 0000 00 00 00000000 01000000 00 00"},
+        {false, "1400 0100 01 17 0800 4000 0000 00 00 00000000 01000000 00 00"},
+        {false, "1400 0100 01 17 0000 4000 0000 00 00 00000000 01000000 00 00"},
+        {false, "1400 0100 01 17 4800 0000 0000 00 00 00000000 01000000 00 00"},
         /* Listed. */
-        {false, "1400 0100 01 07 4800 4000 0000 00 00 00000000 01000000"},
-        {false, "1400 0100 00 07 4800 4000 0000 00 00 00000000 01000000"},
+        {false, "1400 0100 01 07 4800 4000 0000 00 00 00000000 01000000 00 00"},
+        {false, "1400 0100 00 07 4800 4000 0000 00 00 00000000 01000000 00 00"},
         /* Disabled, dynamic. */
-        {true, "1400 0100 01 27 4800 0000 0000 01 00 00000000 01000000"},
-        {false, "1400 0100 00 07 4800 0000 0000 01 00 00000000 01000000"},
-        {false, "1400 0100 02 07 4800 0000 0000 01 00 00000000 01000000"},
-        {false, "1400 0100 03 0F 4800 0000 0000 01 00 00000000 01000000"},
-        {false, "1400 0100 00 27 4800 0000 0000 00 00 00000000 01000000"},
-        {false, "1400 0100 02 27 4800 0000 0000 00 00 00000000 01000000"},
-        {false, "1400 0100 03 2F 4800 0000 0000 00 00 00000000 01000000"},
+        {true, "1400 0100 01 27 4800 0000 0000 01 00 00000000 01000000 00 00"},
+        {false, "1400 0100 00 07 4800 0000 0000 01 00 00000000 01000000 00 00"},
+        {false, "1400 0100 02 07 4800 0000 0000 01 00 00000000 01000000 00 00"},
+        {false, "1400 0100 03 0F 4800 0000 0000 01 00 00000000 01000000 00 00"},
+        {false, "1400 0100 00 27 4800 0000 0000 00 00 00000000 01000000 00 00"},
+        {false, "1400 0100 02 27 4800 0000 0000 00 00 00000000 01000000 00 00"},
+        {false, "1400 0100 03 2F 4800 0000 0000 00 00 00000000 01000000 00 00"},
         /* Hello. */
-        {true, "1400 0100 00 47 4800 0000 0000 00 00 00000000 01000000"},
-        {true, "1400 0100 00 47 4800 0000 0000 00 00 00000080 01000000"},
-        {false, "1400 0100 00 07 4800 0000 0000 00 00 01000000 01000000"},
-        {false, "1400 0100 00 07 4800 0000 0000 00 00 00000080 01000000"},
+        {true, "1400 0100 00 47 4800 0000 0000 00 00 00000000 01000000 00 00"},
+        {true, "1400 0100 00 47 4800 0000 0000 00 00 00000080 01000000 00 00"},
+        {false, "1400 0100 00 07 4800 0000 0000 00 00 01000000 01000000 00 00"},
+        {false, "1400 0100 00 07 4800 0000 0000 00 00 00000080 01000000 00 00"},
         /* Held: active, and not both initiating and dropping. */
-        {true, "1400 0100 02 07 4800 0000 0000 00 00 00000000 01000000"},
-        {true, "1400 0100 02 4E 4800 0000 0000 00 00 05000000 01000000"},
-        {false, "1400 0100 02 05 4800 0000 0000 00 00 00000000 01000000"},
-        {false, "1400 0100 02 0C 4800 0000 0000 00 00 00000000 01000000"},
-        {false, "1400 0100 02 0F 4800 0000 0000 00 00 00000000 01000000"},
+        {true, "1400 0100 02 07 4800 0000 0000 00 00 00000000 01000000 00 00"},
+        {true, "1400 0100 02 4E 4800 0000 0000 00 00 05000000 01000000 00 00"},
+        {false, "1400 0100 02 05 4800 0000 0000 00 00 00000000 01000000 00 00"},
+        {false, "1400 0100 02 0C 4800 0000 0000 00 00 00000000 01000000 00 00"},
+        {false, "1400 0100 02 0F 4800 0000 0000 00 00 00000000 01000000 00 00"},
         /* Gone: all three, and no Hello. */
-        {true, "1400 0100 03 0F 4800 0000 0000 00 00 00000000 01000000"},
-        {true, "1400 0100 03 0B 4800 0000 0000 00 00 00000000 01000000"},
-        {false, "1400 0100 03 0D 4800 0000 0000 00 00 00000000 01000000"},
-        {false, "1400 0100 03 0E 4800 0000 0000 00 00 00000000 01000000"},
-        {false, "1400 0100 03 07 4800 0000 0000 00 00 00000000 01000000"},
-        {false, "1400 0100 03 4F 4800 0000 0000 00 00 00000000 01000000"},
+        {true, "1400 0100 03 0F 4800 0000 0000 00 00 00000000 01000000 00 00"},
+        {true, "1400 0100 03 0B 4800 0000 0000 00 00 00000000 01000000 00 00"},
+        {false, "1400 0100 03 0D 4800 0000 0000 00 00 00000000 01000000 00 00"},
+        {false, "1400 0100 03 0E 4800 0000 0000 00 00 00000000 01000000 00 00"},
+        {false, "1400 0100 03 07 4800 0000 0000 00 00 00000000 01000000 00 00"},
+        {false, "1400 0100 03 4F 4800 0000 0000 00 00 00000000 01000000 00 00"},
     };
     for (size_t i = 0; i < sizeof rows / sizeof *rows; i++) {
         trying("record %s", rows[i].record);

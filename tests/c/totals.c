@@ -10,7 +10,7 @@
 #define KIND(n) TACIT_KIND_SET(n)
 #define COUNT(list) (sizeof(list) / sizeof *(list))
 
-static const char no_tac[] = "85060001 80";
+static const char no_tac[] = ALL_THREE "85060001 80";
 static const char lists_4[] = "85060001 80 850F0005 80 00048000";
 static const char lists_both[] = "85060001 80 850F0009 80 00048000 00078000";
 
@@ -23,7 +23,7 @@ static struct tacit_totals all_of(uint8_t total)
     return totals;
 }
 
-/* A session that enables 4 and 7: fresh, or opened with this area. */
+/* A session that enables 4 and 7 and holds all three capabilities: fresh, or opened so. */
 static struct tacit_session session_with(const char *area)
 {
     struct record record = area == NULL ? fresh(APP(4) | APP(7)) : opened(APP(4) | APP(7), area);
@@ -66,24 +66,30 @@ static const struct {
     uint16_t kinds;
     const char *record;
 } sorts[] = {
-    {0x101, "1400 0100 01 14 4800 4800 0000 00 00 00000000 01000000"},
-    {0x100, "1400 0100 01 34 4800 4800 0000 01 00 00000000 01000000"},
+    {0x101, "1400 0100 01 14 4800 4800 0000 00 00 00000000 01000000 00 00"},
+    {0x100, "1400 0100 01 34 4800 4800 0000 01 00 00000000 01000000 07 07"},
     /* Out of force all ten, but for what is disabled. */
-    {0x3FF, "1400 0100 01 04 4800 0000 0000 00 00 00000000 01000000"},
-    {0x3FF, "1400 0100 01 00 0000 0000 0000 00 00 00000000 01000000"},
-    {0x27C, "1400 0100 01 00 4800 0000 0000 0F 00 00000000 01000000"},
+    {0x3FF, "1400 0100 01 04 4800 0000 0000 00 00 00000000 01000000 07 07"},
+    {0x3FF, "1400 0100 01 00 0000 0000 0000 00 00 00000000 01000000 07 07"},
+    {0x27C, "1400 0100 01 00 4800 0000 0000 0F 00 00000000 01000000 07 07"},
     /* Enabled or listed alone is not enough; of all thirteen, three are common, then all. */
-    {0x001, "1400 0100 01 14 4800 0800 0000 00 00 00000000 01000000"},
-    {0x100, "1400 0100 01 14 4000 4800 0000 00 00 00000000 01000000"},
-    {0x0FC, "1400 0100 01 14 FF1F 2404 0000 00 00 00000000 01000000"},
-    {0x3FF, "1400 0100 01 14 FF1F FF1F 0000 00 00 00000000 01000000"},
+    {0x001, "1400 0100 01 14 4800 0800 0000 00 00 00000000 01000000 00 00"},
+    {0x100, "1400 0100 01 14 4000 4800 0000 00 00 00000000 01000000 00 00"},
+    {0x0FC, "1400 0100 01 14 FF1F 2404 0000 00 00 00000000 01000000 07 07"},
+    {0x3FF, "1400 0100 01 14 FF1F FF1F 0000 00 00 00000000 01000000 07 07"},
     /* The protected kinds by 8; none by 9. */
-    {0x202, "1400 0100 01 14 8000 8000 0202 00 00 00000000 01000000"},
-    {0x000, "1400 0100 01 14 0001 0001 FF03 00 00 00000000 01000000"},
+    {0x202, "1400 0100 01 14 8000 8000 0202 00 00 00000000 01000000 00 00"},
+    {0x000, "1400 0100 01 14 0001 0001 FF03 00 00 00000000 01000000 07 07"},
+    /* Of kinds 2 to 6 those whose capability both hold: none, P2MP, MP2MP, P2MP and HSMP. */
+    {0x383, "1400 0100 01 00 4800 0000 0000 00 00 00000000 01000000 07 00"},
+    {0x387, "1400 0100 01 04 4800 0000 0000 00 00 00000000 01000000 07 01"},
+    {0x39B, "1400 0100 01 04 4800 0000 0000 00 00 00000000 01000000 03 06"},
+    {0x0E4, "1400 0100 01 14 FF1F 2404 0000 00 00 00000000 01000000 05 07"},
+    {0x006, "1400 0100 01 14 8000 8000 7E00 00 00 00000000 01000000 01 01"},
     /* Ready, Held and Gone. */
-    {0x000, "1400 0100 00 04 4800 0000 0000 00 00 00000000 01000000"},
-    {0x000, "1400 0100 02 06 4800 0000 0000 00 00 00000000 01000000"},
-    {0x000, "1400 0100 03 0F 4800 0000 0000 00 00 00000000 01000000"},
+    {0x000, "1400 0100 00 04 4800 0000 0000 00 00 00000000 01000000 00 00"},
+    {0x000, "1400 0100 02 06 4800 0000 0000 00 00 00000000 01000000 00 00"},
+    {0x000, "1400 0100 03 0F 4800 0000 0000 00 00 00000000 01000000 00 00"},
 };
 
 static struct tacit_session of_sort(size_t i)
@@ -170,7 +176,9 @@ static const struct move moves[] = {
     {NULL, EVENT(INITIALIZATION), lists_4, 0, 0x001, TACIT_DONE, TACIT_OPEN},
     {NULL, EVENT(INITIALIZATION), lists_both, 0, 0x101, TACIT_DONE, TACIT_OPEN},
     {NULL, EVENT(INITIALIZATION), no_tac, 0, 0x3FF, TACIT_DONE, TACIT_OPEN},
-    {NULL, EVENT(INITIALIZATION), "850D0003 80 90 B0", 0, 0x37E, TACIT_DONE, TACIT_OPEN},
+    {NULL, EVENT(INITIALIZATION), ALL_THREE "850D0003 80 90 B0", 0, 0x37E, TACIT_DONE, TACIT_OPEN},
+    {NULL, EVENT(INITIALIZATION), "85090001 00 850D0003 80 90 B0", 0, 0x31A, TACIT_DONE,
+     TACIT_OPEN},
     /* Down on leaving Open, each way. */
     {lists_both, EVENT(CLOSED), "", 0x101, 0, TACIT_DONE, TACIT_READY},
     {no_tac, EVENT(CLOSED), "", 0x3FF, 0, TACIT_DONE, TACIT_READY},
@@ -184,16 +192,22 @@ static const struct move moves[] = {
     {lists_both, EVENT(CAPABILITY), "850D0002 80 C0", 0x100, 0, TACIT_DONE, TACIT_OPEN},
     {"85060001 80 850D0003 80 C0 90", EVENT(CAPABILITY), "850D0002 80 40", 0, 0x100, TACIT_DONE,
      TACIT_OPEN},
-    {lists_both, EVENT(CAPABILITY), "850F0001 00", 0, 0x2FE, TACIT_DONE, TACIT_OPEN},
+    {lists_both, EVENT(CAPABILITY), "850F0001 00", 0, 0x282, TACIT_DONE, TACIT_OPEN},
+    {lists_both, EVENT(CAPABILITY), ALL_THREE "850F0001 00", 0, 0x2FE, TACIT_DONE, TACIT_OPEN},
     {no_tac, EVENT(CAPABILITY), lists_4, 0x3FE, 0, TACIT_DONE, TACIT_OPEN},
     {lists_both, CHANGE(4, 0), "", 0x001, 0, TACIT_DONE, TACIT_OPEN},
-    {"85060001 80 850F0009 80 00048000 00038000", CHANGE(3, 1), "", 0, 0x07C, TACIT_DONE,
+    {ALL_THREE "85060001 80 850F0009 80 00048000 00038000", CHANGE(3, 1), "", 0, 0x07C, TACIT_DONE,
+     TACIT_OPEN},
+    {no_tac, EVENT(CAPABILITY), "85080001 00 89020001 00", 0x064, 0, TACIT_DONE, TACIT_OPEN},
+    {"89020001 00", EVENT(CAPABILITY), "85080001 80 89020001 80", 0, 0x004, TACIT_DONE,
      TACIT_OPEN},
     /* Both ways at once. */
     {lists_4, EVENT(CAPABILITY), "850F0009 80 00040000 00078000", 0x001, 0x100, TACIT_DONE,
      TACIT_OPEN},
     {"85060001 80 850D0002 80 90", EVENT(CAPABILITY), "850D0003 80 10 A0", 0x002, 0x001,
      TACIT_DONE, TACIT_OPEN},
+    {"85080001 80", EVENT(CAPABILITY), "85080001 00 85090001 80", 0x004, 0x018, TACIT_DONE,
+     TACIT_OPEN},
 };
 
 /* The session of a move stands between two others, one of them Open. */
@@ -365,6 +379,11 @@ static void nothing_moves(void)
         {lists_both, EVENT(CAPABILITY), "850F0005 80 00058000 850D0002 80 A0", 0, 0, TACIT_DONE,
          TACIT_OPEN},
         {NULL, EVENT(INITIALIZATION), "850F0005 80 00048000 850D0002 80 90", 0, 0, TACIT_DONE,
+         TACIT_OPEN},
+        /* Kinds that are not negotiated, or whose capability the peer lacks. */
+        {lists_both, EVENT(CAPABILITY), ALL_THREE, 0, 0, TACIT_DONE, TACIT_OPEN},
+        {no_tac, EVENT(CAPABILITY), ALL_THREE, 0, 0, TACIT_DONE, TACIT_OPEN},
+        {"85060001 80 850F0009 80 00048000 00038000", CHANGE(3, 1), "", 0, 0, TACIT_DONE,
          TACIT_OPEN},
     };
     static const uint8_t numbers[] = {0, 64, 65, 66, 200, 255};
@@ -538,6 +557,10 @@ static const char *const areas[] = {
     "85060001 80",
     "85060001 80 850F0009 80 00048000 00078000",
     "85060001 80 850F0011 80 00038000 00068000 00088000 000A8000",
+    ALL_THREE "85060001 80",
+    "85060001 80 85090001 00 850F0009 80 00038000 00088000",
+    "85080001 80 85090001 80",
+    "85080001 00 89020001 80",
     "85060001 80 850F0005 80 00028000 850D0003 80 A0 B0",
     "850F0009 80 00040000 00078000",
     "850F0001 00",
@@ -600,7 +623,8 @@ static void from_fresh_sessions(void)
                                               .uses_tac = at % 5 != 4,
                                               .drops = at & 4,
                                               .protected_kinds = any_number() & TACIT_ALL_KINDS,
-                                              .enabled = any_number() & TACIT_ALL_APPS};
+                                              .enabled = any_number() & TACIT_ALL_APPS,
+                                              .capabilities = any_number() % 8};
             CHECK(create(&record, settings) == 0);
             row.at[at] = load(&record).session;
         }

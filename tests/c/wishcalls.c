@@ -55,7 +55,8 @@ static void put_message(uint8_t *room, uint32_t number, const struct wish_call *
     };
     memcpy(room, message, sizeof message);
     struct tacit_reading reading = read_area(message + 8, sizeof message - 8);
-    CHECK(reading.refusal == 0 && reading.dynamic == 0 && reading.tac.length == 0);
+    CHECK(reading.refusal == 0 && reading.dynamic == 0 && reading.capabilities == 0);
+    CHECK(reading.tac.length == 0);
     CHECK(reading.sac.start == 4 && reading.sac.length == 2);
 }
 

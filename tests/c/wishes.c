@@ -7,7 +7,7 @@
 
 static const char dynamic[] = "85060001 80";
 
-/* An end that uses no TAC, so that every kind is permitted that is not disabled. */
+/* An end that uses no TAC, so that every kind of an App is permitted that is not disabled. */
 static struct record other_end(void)
 {
     struct record record = {{0}, TACIT_RECORD_LENGTH};
@@ -171,7 +171,8 @@ static void not_stored(void)
                                       .uses_tac = true,
                                       .enabled = APP(4) | APP(7),
                                       .first_number = 1};
-    struct record wanted = record_of("1400 0100 00 07 4800 0000 0000 00 00 00000000 01000000");
+    struct record wanted =
+        record_of("1400 0100 00 07 4800 0000 0000 00 00 00000000 01000000 00 00");
     for (settings.wishes = 0; settings.wishes < 16; settings.wishes++) {
         struct record record = {{0}, TACIT_RECORD_LENGTH};
         CHECK(create(&record, settings) == 0);

@@ -30,18 +30,26 @@ static void texts(void)
     expect_texts(tacit_refusal_text, from_to(0, 12) | from_to(15, 16));
     expect_texts(tacit_outcome_text, from_to(0, 3));
     expect_texts(tacit_state_text, from_to(0, 3));
-    expect_texts(tacit_why_text, from_to(0, 4));
+    expect_texts(tacit_why_text, from_to(0, 6));
     expect_texts(tacit_kind_text, from_to(0, 9));
+    expect_texts(tacit_capability_text, from_to(1, 2) | from_to(4, 4));
     expect_texts(tacit_application_text, from_to(1, 13));
     expect_texts(tacit_sac_app_text, from_to(1, 4));
     CHECK(strcmp(tacit_refusal_text(8), "too little room for what is to be written") == 0);
+    CHECK(strcmp(tacit_refusal_text(10),
+                 "record, session or wishes not sound, or record not of 24 octets") == 0);
     CHECK(strcmp(tacit_refusal_text(12), "limit over 64") == 0);
     CHECK(strcmp(tacit_refusal_text(15), "no SAC App") == 0);
     CHECK(strcmp(tacit_refusal_text(16),
                  "total outside 0 to 64: the totals are not those of the row") == 0);
     CHECK(strcmp(tacit_outcome_text(3), "at the limit") == 0);
     CHECK(strcmp(tacit_why_text(2), "disabled by the peer") == 0);
+    CHECK(strcmp(tacit_why_text(5), "the capability that it needs is not held here") == 0);
+    CHECK(strcmp(tacit_why_text(6), "the capability that it needs is not held by the peer") == 0);
     CHECK(strcmp(tacit_kind_text(8), "Generalized PWid") == 0);
+    CHECK(strcmp(tacit_capability_text(1), "P2MP") == 0);
+    CHECK(strcmp(tacit_capability_text(2), "MP2MP") == 0);
+    CHECK(strcmp(tacit_capability_text(4), "HSMP") == 0);
     CHECK(strcmp(tacit_application_text(4), "LDPv4 Remote LFA") == 0);
     CHECK(strcmp(tacit_sac_app_text(1), "IPv4 prefixes") == 0);
     CHECK(strcmp(tacit_sac_app_text(4), "FEC 129 pseudowires") == 0);
@@ -55,6 +63,10 @@ static void names(void)
     CHECK(TACIT_AT_LIMIT == 3);
     CHECK(TACIT_PERMITTED == 0 && TACIT_NOT_OPEN == 1 && TACIT_DISABLED_BY_PEER == 2);
     CHECK(TACIT_NOT_ENABLED == 3 && TACIT_NOT_LISTED == 4);
+    CHECK(TACIT_CAPABILITY_NOT_OURS == 5 && TACIT_CAPABILITY_NOT_THEIRS == 6);
+    CHECK(TACIT_CAPABILITY_P2MP == 1 && TACIT_CAPABILITY_MP2MP == 2);
+    CHECK(TACIT_CAPABILITY_HSMP == 4 && TACIT_ALL_CAPABILITIES == 7);
+    CHECK(TACIT_RECORD_LENGTH == 24);
     CHECK(TACIT_ROW_MOST == 64 && TACIT_LIMIT_MOST == 64 && TACIT_APPLICATIONS == 13);
     CHECK(TACIT_EVENT_INITIALIZATION == 0 && TACIT_EVENT_CAPABILITY == 1);
     CHECK(TACIT_EVENT_LOCAL_CHANGE == 2 && TACIT_EVENT_MISMATCH == 3);

@@ -98,8 +98,16 @@ static inline const struct tacit_session *guards_of(const struct place *place)
         {.state = TACIT_OPEN,
          .flags = TACIT_FLAG_ACTIVE | TACIT_FLAG_USES_TAC | TACIT_FLAG_IN_FORCE,
          .enabled = TACIT_ALL_APPS,
-         .listed = TACIT_ALL_APPS},
-        {.state = 0x5A, .flags = 0x5A, .disabled = 0x5A, .hello = 0x5A5A5A5A, .next = 0x5A5A5A5A},
+         .listed = TACIT_ALL_APPS,
+         .ours = TACIT_ALL_CAPABILITIES,
+         .theirs = TACIT_ALL_CAPABILITIES},
+        {.state = 0x5A,
+         .flags = 0x5A,
+         .disabled = 0x5A,
+         .ours = 0x5A,
+         .theirs = 0x5A,
+         .hello = 0x5A5A5A5A,
+         .next = 0x5A5A5A5A},
     };
     static struct tacit_session all[2][GUARDS];
     struct tacit_session *guards = all[place->to_the_end];

@@ -10,7 +10,7 @@
  *              1  lend empty buffers as NULL
  *              .. what it is given, in the order that stands there
  *   an answer  1  what went wrong (enum fault, ored)
- *              18 the answer, field behind field (SAID)
+ *              20 the answer, field behind field (SAID)
  *              .. each buffer that the call may write, as it left it (enum buffer)
  *
  * Numbers have the octets of their types, the least significant first. A buffer is

@@ -5,8 +5,8 @@
  *
  *   how it begins   an octet. Bit 7 is 0: it is created; bits 0 to 3 are the
  *                   roles, and two sets of 2 octets and a number of 4 follow,
- *                   and an octet of wishes if bit 4 is 1. Bit 7 is 1: a record of
- *                   so many octets as bits 0 to 5 say follows.
+ *                   and an octet of wishes and one of capabilities if bit 4 is 1.
+ *                   Bit 7 is 1: a record of so many octets as bits 0 to 5 say follows.
  *   calls           each an octet and what it takes. Bits 0 to 3 of the octet are
  *                   the call, bit 4 is on or off, bit 5 says where buffers are
  *                   lent, bit 6 lends empty ones as NULL. Areas have a length of
@@ -26,7 +26,7 @@
  *                   events hand back.
  *   calls           each an octet and what it takes. Bits 0 to 3 are what is done
  *                   (enum deed), bits 4 to 6 are as above, bit 7 says that the area
- *                   is made of 2 octets. A row number is an octet, modulo the
+ *                   is made of 3 octets. A row number is an octet, modulo the
  *                   sessions and two more, or FF and 8 octets.
  *
  * Numbers have the most significant octet first, but in the fields of a struct the
@@ -55,7 +55,7 @@ enum origin {
     FROM_FIELDS,         /* their fields */
     FROM_RECORD,         /* a record */
     FROM_INITIALIZATION, /* a record that had one, with the area that follows */
-    FROM_LIST            /* the same, with an area that is made of 2 octets */
+    FROM_LIST            /* the same, with an area that is made of 3 octets */
 };
 
 /* What is done in a row; the six events have their numbers. */
@@ -125,17 +125,26 @@ static struct octets take_octets(struct scene *scene, uint8_t *to, size_t length
 }
 
 /*
- * An area made of 16 bits: a Dynamic Capability Announcement if bit 13 is 1, and a
- * TAC unless bit 15 is, with the applications in bits 0 to 12, all of them with
- * E = 0 if bit 14 is 1.
+ * An area made of 16 bits and an octet: a Dynamic Capability Announcement if bit 13 is 1,
+ * and a TAC unless bit 15 is, with the applications in bits 0 to 12, all of them with
+ * E = 0 if bit 14 is 1; the capabilities in bits 0 to 2 of the octet, with S = 1 for
+ * those in its bits 4 to 6.
  */
-static struct octets made_area(uint8_t *area, uint64_t bits)
+static struct octets made_area(uint8_t *area, uint64_t bits, uint64_t capabilities)
 {
     static const uint8_t dynamic[] = {0x85, 0x06, 0, 1, 0x80};
+    static const uint8_t types[][2] = {{0x85, 0x08}, {0x85, 0x09}, {0x89, 0x02}};
     uint8_t *tac = area;
     if (bits & 0x2000) {
         memcpy(area, dynamic, sizeof dynamic);
         tac += sizeof dynamic;
+    }
+    for (int i = 0; i < 3; i++) {
+        if (capabilities >> i & 1) {
+            uint8_t s = capabilities >> i & 0x10 ? 0x80 : 0;
+            memcpy(tac, (uint8_t[]){types[i][0], types[i][1], 0, 1, s}, 5);
+            tac += 5;
+        }
     }
     if (bits & 0x8000)
         return (struct octets){area, (size_t)(tac - area)};
@@ -153,7 +162,7 @@ static struct octets made_area(uint8_t *area, uint64_t bits)
 static struct octets take_area(struct scene *scene, bool made)
 {
     uint64_t number = take(scene, 2);
-    return made ? made_area(scene->area, number)
+    return made ? made_area(scene->area, number, take(scene, 1))
                 : take_octets(scene, scene->area, number % (MOST_AREA + 1));
 }
 
@@ -162,7 +171,7 @@ static struct octets take_room(struct scene *scene)
     return take_octets(scene, scene->room, take(scene, 1) % (MOST_ROOM + 1));
 }
 
-/* A record of 22 octets, or of another length, in an octet, if bit 4 of the head is 1. */
+/* A record of 24 octets, or of another length, in an octet, if bit 4 of the head is 1. */
 static void take_record(struct scene *scene)
 {
     scene->record_length = scene->head & 0x10 ? take(scene, 1) & MOST_RECORD : TACIT_RECORD_LENGTH;
@@ -413,6 +422,7 @@ static void begin(struct scene *scene)
     given.settings.enabled = (uint32_t)take(scene, 2);
     given.settings.first_number = (uint32_t)take(scene, 4);
     given.settings.wishes = how & 0x10 ? (uint32_t)take(scene, 1) : 0;
+    given.settings.capabilities = how & 0x10 ? (uint32_t)take(scene, 1) : 0;
     compare(scene, &given, said);
 }
 

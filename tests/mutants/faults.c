@@ -80,11 +80,8 @@ SIGNATURE_row_event(__wrap_tacit)
     if (answer.written > 0)
         room[room_len] ^= 1;
 #elif FAULT == 17 /* writes padding, which is its right */
-    for (size_t i = 0; answer.refusal == 0 && i < row_len; i++) {
+    for (size_t i = 0; answer.refusal == 0 && i < row_len; i++)
         *((uint8_t *)&row[i].enabled - 1) ^= 0x55;
-        *((uint8_t *)&row[i].hello - 1) ^= 0x55;
-        *((uint8_t *)&row[i].hello - 2) ^= 0x55;
-    }
 #endif
     after.answer = answer;
     return after;

@@ -4,8 +4,8 @@
  * A line for each message that it writes for a change, "number ta_id on octets",
  * and for a wish, "number app disable octets"; for each set of wishes, "wishes
  * octets", the octets being those of the SAC for an Initialization; then, for each
- * area given on the command line, "refusal dynamic tac sac" as read and "outcome
- * state flags disabled" after an Initialization with it.
+ * area given on the command line, "refusal dynamic capabilities tac sac" as read and
+ * "outcome state flags disabled" after an Initialization with it.
  */
 #include "tacit.h"
 
@@ -81,8 +81,8 @@ static void read_area(const char *text)
         area[i] = (uint8_t)octet;
     }
     struct tacit_reading reading = tacit_read(area, length);
-    printf("%d %d %d %d\n", reading.refusal, reading.dynamic, reading.tac.length,
-           reading.sac.length);
+    printf("%d %d %X %d %d\n", reading.refusal, reading.dynamic, reading.capabilities,
+           reading.tac.length, reading.sac.length);
     uint8_t record[TACIT_RECORD_LENGTH];
     create(record, TACIT_ALL_APPS, 1);
     struct tacit_answer answer = tacit_initialization(record, sizeof record, area, length);

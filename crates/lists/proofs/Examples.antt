@@ -5,8 +5,8 @@ use mathlib.Core.List.{[], _∷_}
 use mathlib.Core.Bool.{true, false}
 use Rattle.choice.specs.Pick.{pick}
 use Rattle.sets.specs.Set.{union, minus, with, without, numbered, switched}
-use Rattle.area.specs.Area.{at16}
-use Rattle.lists.specs.Tac.{sBit, idAt, eAt, stood, after, tacList}
+use Rattle.area.specs.Area.{at16, sBit}
+use Rattle.lists.specs.Tac.{idAt, eAt, stood, after, tacList}
 use Rattle.lists.specs.Met.{met}
 use Rattle.lists.specs.Sac.{sacElement, sacAfter, sacList}
 

@@ -11,13 +11,13 @@ use Rattle.sets.specs.Set.{switched}
 use Rattle.kinds.specs.Kinds.{applicationCount}
 use Rattle.area.specs.declared.Reading.{Reading}
 use Rattle.area.specs.Found.{nothingFound, withTac}
-use Rattle.area.specs.Area.{headLength, at16, takeTlv, passOther, byType, tlvAt, readFrom, readArea}
-use Rattle.lists.specs.Tac.{sBit, idAt, eAt, stood, after, tacList}
+use Rattle.area.specs.Area.{headLength, at16, takeTlv, passOther, byType, sBit, tlvAt, readFrom, readArea}
+use Rattle.lists.specs.Tac.{idAt, eAt, stood, after, tacList}
 use Rattle.message.specs.Message.{messageHeadLength, oneTlv, capabilityWith, oneElement, tacOctets}
 
 -- the reading of such an area: a TAC of 5 octets from the fifth on, and nothing else
 abbrev pub oneTac : Reading
-oneTac = withTac (record { start = headLength; len = 5 }) nothingFound
+oneTac = withTac (record { start = headLength; len = 5 }) true nothingFound
 
 -- behind its head a Capability message of one TLV is the area of that TLV
 pub area-back : (number type : ℕ) (value : List ℕ) → drop messageHeadLength (capabilityWith number type value) ≡ oneTlv type value

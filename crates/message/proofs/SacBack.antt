@@ -45,7 +45,7 @@ element-back opening s n disable h acts =
 -- ---- the message of a wish
 -- the reading of its area: a SAC of 2 octets from the fifth on, and nothing else
 abbrev pub oneSac : Reading
-oneSac = withSac (record { start = headLength; len = 2 }) nothingFound
+oneSac = withSac (record { start = headLength; len = 2 }) true nothingFound
 
 pub sac-read-back : (n : ℕ) (disable : Bool) → readArea (appOctets n disable) ≡ oneSac
 unfolding pick at16 takeTlv passOther byType tlvAt readFrom readArea

@@ -5,8 +5,8 @@ use Rattle.sets.specs.Set.{has, common, union, minus, with, without, empty, bel
 use Rattle.sets.proofs.Subsets.{within-means}
 use Rattle.kinds.specs.Kinds.{isIn, setOf, opens, controlled, gather, opened, disables}
 use Rattle.octets.specs.Octets.{over}
-use Rattle.area.specs.Area.{at16, takeTlv, passOther, byType, tlvAt, readFrom, readArea, part}
-use Rattle.lists.specs.Tac.{sBit, idAt, eAt, stood, after, tacList}
+use Rattle.area.specs.Area.{at16, takeTlv, passOther, byType, part, sBit, tlvAt, readFrom, readArea}
+use Rattle.lists.specs.Tac.{idAt, eAt, stood, after, tacList}
 use Rattle.lists.specs.Sac.{sacElement, sacAfter, sacList}
 use Rattle.message.specs.Sac.{wishElements, sacFor}
 use Rattle.message.specs.Message.{roomWith}

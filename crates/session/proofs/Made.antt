@@ -17,15 +17,16 @@ use Rattle.sets.proofs.Flags as flag
 use Rattle.sets.proofs.Members.{has-none}
 use Rattle.sets.proofs.Subsets.{within-means}
 use Rattle.sets.proofs.Switches.{switched-lt}
-use Rattle.kinds.specs.Kinds.{applicationCount, kindCount, appCount}
+use Rattle.kinds.specs.Kinds.{applicationCount, kindCount, appCount, capabilityCount}
 use Rattle.area.specs.declared.Reading.{Reading}
-use Rattle.area.specs.Area.{part}
-use Rattle.lists.specs.Tac.{sBit}
+use Rattle.area.specs.Area.{part, sBit}
+use Rattle.area.proofs.Parts.{Few}
 use Rattle.lists.proofs.First.{tac-list-lt}
 use Rattle.lists.proofs.Later.{sac-list-lt}
 use Rattle.session.specs.declared.Session.{Session}
-use Rattle.session.specs.Session.{stateReady, stateOpen, stateHeld, stateGone, isReady, isOpen, isHeld, active, usesTac, inForce, recorded, initiatingBit, activeBit, usesTacBit, dropsBit, inForceBit, dynamicBit, recordedBit, flagCount, clearedOutOfOpen, clearedInGone, negotiated, nothingCommon, leavesGone, spareZero, forceSound, listedSound, openSound, helloSound, heldSound, goneSound, sound, Sound}
+use Rattle.session.specs.Session.{stateReady, stateOpen, stateHeld, stateGone, isReady, isOpen, isHeld, active, usesTac, inForce, recorded, initiatingBit, activeBit, usesTacBit, dropsBit, inForceBit, dynamicBit, recordedBit, flagCount, clearedOutOfOpen, clearedInGone, negotiated, nothingCommon, leavesGone, spareZero, forceSound, listedSound, openSound, theirsSound, helloSound, heldSound, goneSound, sound, Sound}
 use Rattle.session.specs.With.{sessionOf, withFlags, withEnabled, withNext, fresh, outOfOpen, backToReady, mismatched, heldToReady, greeted, changed}
+use Rattle.session.specs.Capabilities.{theirsAfter}
 use Rattle.session.specs.Creation.{raised, roleFlags}
 use Rattle.session.specs.Events.{takesTac, afterInitialization, listAfter, flagsAfter, afterCapability}
 use Rattle.session.proofs.SoundMeans.{sound-means, means-sound}
@@ -39,10 +40,11 @@ pub record Basic (s : Session) : Type 0 where
   pub flags : s .flags < 2 ^ flagCount
   pub enabled : s .enabled < 2 ^ applicationCount
   pub protects : s .protects < 2 ^ kindCount
+  pub ours : s .ours < 2 ^ capabilityCount
   pub unrecorded-hello : recorded s ≡ false → s .hello ≡ 0
 
 pub basic : {s : Session} → Sound s → Basic s
-basic r = record { flags = r .flags; enabled = r .enabled; protects = r .protects; unrecorded-hello = r .unrecorded-hello }
+basic r = record { flags = r .flags; enabled = r .enabled; protects = r .protects; ours = r .ours; unrecorded-hello = r .unrecorded-hello }
 
 -- ---- out of Open
 module _ (s : Session) (b : Basic s) where
@@ -61,12 +63,15 @@ module _ (s : Session) (b : Basic s) where
         listed = lit< tt;
         protects = b .protects;
         disabled = lit< tt;
+        ours = b .ours;
+        theirs = lit< tt;
         force-open = λ e. never e unforced;
         force-uses = λ e. never e unforced;
         force-common = λ e. never e unforced;
         unforced-listed = λ _. refl;
         shut-disabled = λ _. refl;
         shut-dynamic = λ _. flag.off (s .flags) off dynamicBit dyn;
+        shut-theirs = λ _. refl;
         unrecorded-hello = heard;
         held-active = λ e. held e .0;
         held-stays = λ e. held e .1;
@@ -158,12 +163,15 @@ module _ (s : Session) (r : Sound s) (number : ℕ) where
         listed = r .listed;
         protects = r .protects;
         disabled = r .disabled;
+        ours = r .ours;
+        theirs = r .theirs;
         force-open = λ e. same ∙ r .force-open (sym (kept inForceBit refl) ∙ e);
         force-uses = λ e. kept usesTacBit refl ∙ r .force-uses (sym (kept inForceBit refl) ∙ e);
         force-common = λ e. r .force-common (sym (kept inForceBit refl) ∙ e);
         unforced-listed = λ e. r .unforced-listed (sym (kept inForceBit refl) ∙ e);
         shut-disabled = λ e. r .shut-disabled (sym same ∙ e);
         shut-dynamic = λ e. kept dynamicBit refl ∙ r .shut-dynamic (sym same ∙ e);
+        shut-theirs = λ e. r .shut-theirs (sym same ∙ e);
         unrecorded-hello = λ e. never (flag.on (s .flags) (one recordedBit) recordedBit refl) e;
         held-active = λ e. kept activeBit refl ∙ r .held-active (held e);
         held-stays = λ e. rw (kept initiatingBit refl, kept dropsBit refl) (r .held-stays (held e));
@@ -194,6 +202,7 @@ module _ (s : Session) (r : Sound s) (n : ℕ) (on : Bool) where
         flags = r .flags;
         enabled = switched-lt applicationCount (s .enabled) n on applicationCount (lit≤ tt) (r .enabled);
         protects = r .protects;
+        ours = r .ours;
         unrecorded-hello = r .unrecorded-hello;
       }
 
@@ -208,12 +217,15 @@ module _ (s : Session) (r : Sound s) (n : ℕ) (on : Bool) where
         listed = r .listed;
         protects = r .protects;
         disabled = r .disabled;
+        ours = r .ours;
+        theirs = r .theirs;
         force-open = λ e. w .as-open ∙ r .force-open e;
         force-uses = r .force-uses;
         force-common = some-common (changed s n on) h;
         unforced-listed = r .unforced-listed;
         shut-disabled = λ e. r .shut-disabled (sym (w .as-open) ∙ e);
         shut-dynamic = λ e. r .shut-dynamic (sym (w .as-open) ∙ e);
+        shut-theirs = λ e. r .shut-theirs (sym (w .as-open) ∙ e);
         unrecorded-hello = r .unrecorded-hello;
         held-active = λ e. never e (w .not-held);
         held-stays = λ e. never e (w .not-held);
@@ -224,13 +236,13 @@ module _ (s : Session) (r : Sound s) (n : ℕ) (on : Bool) where
 
 -- ---- another message number: every rule is of the other fields
 pub next-sound : (s : Session) (next : ℕ) → Sound s → Sound (withNext s next)
-unfolding sound spareZero forceSound listedSound openSound helloSound heldSound goneSound
+unfolding sound spareZero forceSound listedSound openSound theirsSound helloSound heldSound goneSound
 next-sound s next r = sound-means (withNext s next) (means-sound s r)
 
 -- ---- Open: the rules of the other states ask nothing
-open-sound : (t : Session) → isOpen t ≡ true → Basic t → t .listed < 2 ^ applicationCount → t .disabled < 2 ^ appCount
+open-sound : (t : Session) → isOpen t ≡ true → Basic t → t .listed < 2 ^ applicationCount → t .disabled < 2 ^ appCount → t .theirs < 2 ^ capabilityCount
     → (inForce t ≡ true → usesTac t ≡ true) → (inForce t ≡ false → t .listed ≡ 0) → nothingCommon t ≡ false → Sound t
-open-sound t is-open b listed disabled uses unlisted h =
+open-sound t is-open b listed disabled theirs uses unlisted h =
     let is : t .state ≡ stateOpen = eqb-true (t .state) stateOpen is-open in
     let held : isHeld t ≡ false = ap (λ (n : ℕ). eqb n stateHeld) is in
     let gone : eqb (t .state) stateGone ≡ false = ap (λ (n : ℕ). eqb n stateGone) is in
@@ -241,12 +253,15 @@ open-sound t is-open b listed disabled uses unlisted h =
       listed = listed;
       protects = b .protects;
       disabled = disabled;
+      ours = b .ours;
+      theirs = theirs;
       force-open = λ _. is-open;
       force-uses = uses;
       force-common = some-common t h;
       unforced-listed = unlisted;
       shut-disabled = λ e. never is-open e;
       shut-dynamic = λ e. never is-open e;
+      shut-theirs = λ e. never is-open e;
       unrecorded-hello = b .unrecorded-hello;
       held-active = λ e. never e held;
       held-stays = λ e. never e held;
@@ -256,11 +271,11 @@ open-sound t is-open b listed disabled uses unlisted h =
     }
 
 -- ---- what a mismatch leaves does not depend on what it clears: the state, the lists, and the flags of negotiation
-module _ (s : Session) (state flags disabled enabled listed : ℕ)
+module _ (s : Session) (state flags disabled enabled listed theirs : ℕ)
     (kept : (k : ℕ) → has (one inForceBit) k ≡ false → has (one dynamicBit) k ≡ false → has flags k ≡ has (s .flags) k)
     (cleared : (b : ℕ) → within (one inForceBit) b ≡ true → within (one dynamicBit) b ≡ true → minus flags b ≡ minus (s .flags) b) where
   abbrev found-in : Session
-  found-in = sessionOf state flags disabled enabled listed (s .protects) (s .hello) (s .next)
+  found-in = sessionOf state flags disabled enabled listed (s .protects) (s .ours) theirs (s .hello) (s .next)
 
   same-out : (to b hello : ℕ) → within (one inForceBit) b ≡ true → within (one dynamicBit) b ≡ true
       → outOfOpen found-in to b hello ≡ withEnabled (outOfOpen s to b hello) enabled
@@ -280,10 +295,10 @@ module _ (s : Session) (state flags disabled enabled listed : ℕ)
 
 -- a session as it is, and with an application changed
 pub own-mismatched : (s : Session) → mismatched s ≡ withEnabled (mismatched s) (s .enabled)
-own-mismatched s = same-mismatched s (s .state) (s .flags) (s .disabled) (s .enabled) (s .listed) (λ _ _ _. refl) (λ _ _ _. refl)
+own-mismatched s = same-mismatched s (s .state) (s .flags) (s .disabled) (s .enabled) (s .listed) (s .theirs) (λ _ _ _. refl) (λ _ _ _. refl)
 
 pub changed-mismatched : (s : Session) (n : ℕ) (on : Bool) → mismatched (changed s n on) ≡ withEnabled (mismatched s) (changed s n on .enabled)
-changed-mismatched s n on = same-mismatched s (heldToReady s) (s .flags) (s .disabled) _ (s .listed) (λ _ _ _. refl) (λ _ _ _. refl)
+changed-mismatched s n on = same-mismatched s (heldToReady s) (s .flags) (s .disabled) _ (s .listed) (s .theirs) (λ _ _ _. refl) (λ _ _ _. refl)
 
 -- ---- after an Initialization
 module _ (s : Session) (r : Sound s) (ready : isReady s ≡ true) (a : List ℕ) (found : Reading) where
@@ -319,15 +334,17 @@ module _ (s : Session) (r : Sound s) (ready : isReady s ≡ true) (a : List ℕ)
             (raised-lt (s .flags) (one inForceBit) flagCount (takesTac s found) (r .flags) (lit< tt)) (lit< tt);
         enabled = r .enabled;
         protects = r .protects;
+        ours = r .ours;
         unrecorded-hello = λ e. r .unrecorded-hello (sym (opened-kept recordedBit refl refl) ∙ e);
       }
 
-  pub opened-sound : nothingCommon (afterInitialization s a found) ≡ false → Sound (afterInitialization s a found)
+  pub opened-sound : Few found → nothingCommon (afterInitialization s a found) ≡ false → Sound (afterInitialization s a found)
   unfolding afterInitialization
-  opened-sound =
+  opened-sound few =
       open-sound (afterInitialization s a found) refl opened-basic
       (by-test (λ (l : ℕ). l < 2 ^ applicationCount) (λ _. tac-list-lt (part a (found .tac)) true 0 (lit< tt)) (λ _. lit< tt))
       (sac-list-lt (part a (found .sac)) true 0 (lit< tt))
+      (few .present)
       (λ e. opened-uses ∙ and-first (usesTac s) _ (sym opened-force ∙ e)) (λ e. left _ _ (sym opened-force ∙ e))
 
   -- what opening set is what a mismatch clears
@@ -341,7 +358,7 @@ module _ (s : Session) (r : Sound s) (ready : isReady s ≡ true) (a : List ℕ)
 
   pub opened-mismatched : mismatched (afterInitialization s a found) ≡ withEnabled (mismatched s) (s .enabled)
   unfolding afterInitialization
-  opened-mismatched = same-mismatched s stateOpen _ _ (s .enabled) _ opened-kept opened-cleared
+  opened-mismatched = same-mismatched s stateOpen _ _ (s .enabled) _ _ opened-kept opened-cleared
 
 -- ---- after a Capability message
 module _ (s : Session) (r : Sound s) (is-open : isOpen s ≡ true) (a : List ℕ) (found : Reading) where
@@ -369,7 +386,7 @@ module _ (s : Session) (r : Sound s) (is-open : isOpen s ≡ true) (a : List ℕ
 
   pub told-mismatched : mismatched (afterCapability s a found) ≡ withEnabled (mismatched s) (s .enabled)
   unfolding afterCapability
-  told-mismatched = same-mismatched s (s .state) _ _ (s .enabled) _ (λ k h _. told-kept k h) (λ b h _. told-cleared b h)
+  told-mismatched = same-mismatched s (s .state) _ _ (s .enabled) _ _ (λ k h _. told-kept k h) (λ b h _. told-cleared b h)
 
   pub told-uses : usesTac (afterCapability s a found) ≡ usesTac s
   unfolding has
@@ -385,6 +402,7 @@ module _ (s : Session) (r : Sound s) (is-open : isOpen s ≡ true) (a : List ℕ
             (λ _. r .flags);
         enabled = r .enabled;
         protects = r .protects;
+        ours = r .ours;
         unrecorded-hello = λ e. r .unrecorded-hello (sym (told-kept recordedBit refl) ∙ e);
       }
     where
@@ -420,10 +438,15 @@ module _ (s : Session) (r : Sound s) (is-open : isOpen s ≡ true) (a : List ℕ
       go true t false y e = taken _ _ t ∙ left _ _ y
       go false t y z e = left _ _ t ∙ r .unforced-listed (sym (ap (λ (f : ℕ). has f inForceBit) (left _ _ t)) ∙ e)
 
-  pub told-sound : nothingCommon (afterCapability s a found) ≡ false → Sound (afterCapability s a found)
+  told-theirs : Few found → afterCapability s a found .theirs < 2 ^ capabilityCount
+  unfolding afterCapability theirsAfter
+  told-theirs few =
+      union-lt capabilityCount (minus (s .theirs) (found .capabilities)) (found .holding) (minus-lt capabilityCount (s .theirs) (found .capabilities) (r .theirs)) (few .held)
+
+  pub told-sound : Few found → nothingCommon (afterCapability s a found) ≡ false → Sound (afterCapability s a found)
   unfolding afterCapability
-  told-sound =
-      open-sound (afterCapability s a found) is-open told-basic told-listed (sac-list-lt (part a (found .sac)) false (s .disabled) (r .disabled))
+  told-sound few =
+      open-sound (afterCapability s a found) is-open told-basic told-listed (sac-list-lt (part a (found .sac)) false (s .disabled) (r .disabled)) (told-theirs few)
       (λ e. told-uses ∙ forced-uses e) unforced-unlisted
 
 -- ---- a fresh session
@@ -432,10 +455,10 @@ roles-kept : (k : ℕ) (i a u d : Bool) → has (one initiatingBit) k ≡ false 
 roles-kept k i a u d hi ha hu hd =
     raised-kept _ (one dropsBit) k d hd ∙ raised-kept _ (one usesTacBit) k u hu ∙ raised-kept _ (one activeBit) k a ha ∙ raised-kept 0 (one initiatingBit) k i hi ∙ has-none k
 
-pub fresh-sound : (i a u d : Bool) (protects enabled first : ℕ) → protects < 2 ^ kindCount → enabled < 2 ^ applicationCount
-    → Sound (fresh (roleFlags i a u d) protects enabled first)
+pub fresh-sound : (i a u d : Bool) (protects enabled ours first : ℕ) → protects < 2 ^ kindCount → enabled < 2 ^ applicationCount → ours < 2 ^ capabilityCount
+    → Sound (fresh (roleFlags i a u d) protects enabled ours first)
 unfolding has
-fresh-sound i a u d protects enabled first hp he =
+fresh-sound i a u d protects enabled ours first hp he ho =
     let unforced-fresh : has (roleFlags i a u d) inForceBit ≡ false = roles-kept inForceBit i a u d refl refl refl refl in
     record {
       state = lit≤ tt;
@@ -447,12 +470,15 @@ fresh-sound i a u d protects enabled first hp he =
       listed = lit< tt;
       protects = hp;
       disabled = lit< tt;
+      ours = ho;
+      theirs = lit< tt;
       force-open = λ e. never e unforced-fresh;
       force-uses = λ e. never e unforced-fresh;
       force-common = λ e. never e unforced-fresh;
       unforced-listed = λ _. refl;
       shut-disabled = λ _. refl;
       shut-dynamic = λ _. roles-kept dynamicBit i a u d refl refl refl refl;
+      shut-theirs = λ _. refl;
       unrecorded-hello = λ _. refl;
       held-active = λ e. absurd (false≢true e);
       held-stays = λ e. absurd (false≢true e);

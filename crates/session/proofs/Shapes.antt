@@ -11,10 +11,10 @@ use Rattle.sets.specs.Set.{has, one, minus}
 use Rattle.sets.proofs.Flags as flag
 use Rattle.sets.proofs.Subsets.{within-self, within-none, nothing-left, all-left}
 use Rattle.refusals.specs.Refusals.{notRefused}
-use Rattle.kinds.specs.Kinds.{allKinds, opened, disables}
+use Rattle.kinds.specs.Kinds.{allKinds, opened, disables, barred}
 use Rattle.session.specs.declared.Session.{Session}
 use Rattle.session.specs.declared.After.{After}
-use Rattle.session.specs.Session.{stateReady, stateOpen, isOpen, usesTac, inForce, inForceBit, recordedBit, negotiated, Sound, permitted}
+use Rattle.session.specs.Session.{stateReady, stateOpen, isOpen, usesTac, inForce, inForceBit, recordedBit, negotiated, held, Sound, permittedByBase, permitted}
 use Rattle.session.specs.With.{mismatched, heldToReady, greeted, changed}
 use Rattle.session.specs.Decisions.{answered}
 use Rattle.session.proofs.Made.{never, mismatched-shut, to-ready}
@@ -46,8 +46,8 @@ module _ (s t : Session) (outcome written : ℕ) where
 
 -- ---- what permits none
 pub shut-permits : (s : Session) → isOpen s ≡ false → permitted s ≡ 0
-unfolding permitted
-shut-permits s shut = left _ _ shut
+unfolding permitted permittedByBase
+shut-permits s shut = ap (λ (p : ℕ). minus p (barred (held s))) (left _ _ shut) ∙ nothing-left 0 (barred (held s)) (within-none (barred (held s)))
 
 pub ready-permits : (s : Session) → s .state ≡ stateReady → permitted s ≡ 0
 ready-permits s is = shut-permits s (ap (λ (n : ℕ). eqb n stateOpen) is)
@@ -57,19 +57,20 @@ mismatched-permits s = shut-permits (mismatched s) (mismatched-shut s)
 
 -- ---- what permits the same: a Hello is recorded, and the session is Open where it was
 pub greeted-permits : (s : Session) (state number : ℕ) → eqb state stateOpen ≡ isOpen s → permitted (greeted s state number) ≡ permitted s
-unfolding permitted has
+unfolding permitted permittedByBase has
 greeted-permits s state number same =
-    ap₂ (λ (is-open force : Bool). pick is-open (minus (pick force (opened (s .protects) (negotiated s)) allKinds) (disables (s .disabled))) 0) same
+    ap₂ (λ (is-open force : Bool). minus (pick is-open (minus (pick force (opened (s .protects) (negotiated s)) allKinds) (disables (s .disabled))) 0) (barred (held s))) same
     (flag.kept-on (s .flags) (one recordedBit) inForceBit refl)
 
 -- an application is changed where negotiation is not in force
 pub changed-permits : (s : Session) → Sound s → (n : ℕ) (on : Bool) → (isOpen s ≡ true → inForce s ≡ false) → permitted (changed s n on) ≡ permitted s
-unfolding permitted heldToReady
+unfolding permitted permittedByBase heldToReady
 changed-permits s r n on unforced =
-    ap (λ (is-open : Bool). pick is-open (minus (pick (inForce s) (opened (s .protects) (negotiated (changed s n on))) allKinds) (disables (s .disabled))) 0)
+    ap (λ (p : ℕ). minus p (barred (held s)))
+    (ap (λ (is-open : Bool). pick is-open (minus (pick (inForce s) (opened (s .protects) (negotiated (changed s n on))) allKinds) (disables (s .disabled))) 0)
     (to-ready (s .state) (r .state) .as-open)
     ∙ pick-both (λ (x y : ℕ). x ≡ y) (isOpen s)
-    (λ is-open. ap (λ (k : ℕ). minus k (disables (s .disabled))) (left _ _ (unforced is-open) ∙ sym (left _ _ (unforced is-open)))) (λ _. refl)
+    (λ is-open. ap (λ (k : ℕ). minus k (disables (s .disabled))) (left _ _ (unforced is-open) ∙ sym (left _ _ (unforced is-open)))) (λ _. refl))
 
 -- nor is it in force in Open where TAC is not used
 pub unused-unforced : (s : Session) → Sound s → (isOpen s && usesTac s) ≡ false → isOpen s ≡ true → inForce s ≡ false

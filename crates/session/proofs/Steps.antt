@@ -27,6 +27,7 @@ use Rattle.session.specs.Limits.{atLimit}
 use Rattle.session.specs.Decisions.{outcomeMismatch, outcomeAtLimit, refused, answered, Decision, Refused, Unchanged, Done, AsMismatch, Negotiate, Admit, Send, Tell, settled}
 use Rattle.session.specs.Events.{checked, unlessRefused, afterInitialization, onInitialization, onCapability, onLocalChange, onWish, onMismatch, onHello, onClosed, onUnknown, Event, Initialization, Capability, LocalChange, Wish, Mismatch, Hello, Closed, Unknown, Numbered, decision, step}
 use Rattle.session.proofs.SoundMeans.{sound-means, means-sound}
+use Rattle.session.proofs.Shapes.{shut-permits}
 use Rattle.session.proofs.Made.{never, ready-shut, mismatched-sound, mismatched-shut, next-sound, own-mismatched}
 use Rattle.session.proofs.View.{Makes, MakesFound, admits-opens, Facts, facts-of}
 
@@ -286,9 +287,9 @@ not-ready s h a b b′ = ap (λ (c : Decision). settled s (checked s c)) (left _
 -- from a session that is not Open to one that is not Open nothing is lost or gained
 pub nothing-lost : (s t : Session) (outcome : ℕ) → isOpen s ≡ false → isOpen t ≡ false
     → answered s t outcome 0 .answer ≡ record { refusal = notRefused; outcome = outcome; lost = 0; gained = 0; written = 0 }
-unfolding answered permitted minus
+unfolding answered minus
 nothing-lost s t outcome h k =
-    ap₂ (λ (x y : ℕ). record { refusal = notRefused; outcome = outcome; lost = minus x y; gained = minus y x; written = 0 }) (left _ _ h) (left _ _ k)
+    ap₂ (λ (x y : ℕ). record { refusal = notRefused; outcome = outcome; lost = minus x y; gained = minus y x; written = 0 }) (shut-permits s h) (shut-permits t k)
 
 -- ---- "Finding it ourselves and being told have one effect"
 -- a notification, where it is for the state
@@ -298,10 +299,10 @@ told s r h = ap (settled s) (taken _ _ (means-sound s r) ∙ taken _ _ h)
 
 -- what is not Open permits nothing, so all that was permitted is lost
 same-loss : (s t u : Session) → isOpen t ≡ false → isOpen u ≡ false → answered s t outcomeMismatch 0 .answer ≡ answered s u outcomeMismatch 0 .answer
-unfolding answered permitted
+unfolding answered
 same-loss s t u h k =
     ap (λ (p : ℕ). record { refusal = notRefused; outcome = outcomeMismatch; lost = minus (permitted s) p; gained = minus p (permitted s); written = 0 })
-    (left _ _ h ∙ sym (left _ _ k))
+    (shut-permits t h ∙ sym (shut-permits u k))
 
 -- outcome 2: the session is the one that a notification leaves, with the enabled applications of the one in which the mismatch was found
 pub record AsTold (s : Session) (e : Event) (after : After) : Type 0 where

@@ -17,7 +17,7 @@ use Rattle.sets.proofs.Switches.{within-both, within-first, within-second}
 use Rattle.refusals.specs.Refusals.{notRefused, outOfRange, wrongState, noRoom, peerNotDynamic, notSound, unknownApp, totalOutside}
 use Rattle.kinds.specs.Kinds.{applicationCount, appCount, knownApplication, isIn, knownApp}
 use Rattle.area.specs.Area.{readArea}
-use Rattle.area.proofs.Parts.{read-refusal}
+use Rattle.area.proofs.Parts.{read-refusal, few}
 use Rattle.message.specs.Message.{changeLength, wishLength}
 use Rattle.wishes.specs.Wishes.{soundWishes}
 use Rattle.session.specs.declared.Session.{Session}
@@ -197,7 +197,7 @@ module _ (s : Session) (e m : ℕ) (h : Within (s .enabled) e) (r : Sound s) (r�
           record {
             makes = record {
               basic = opened-basic s r q a found;
-              is-sound = opened-sound s r q a found;
+              is-sound = opened-sound s r q a found (few a);
               narrow = λ n _. record { hello = n .hello; next = n .next };
               uses = opened-uses s r q a found;
               enabling = refl;
@@ -225,7 +225,7 @@ module _ (s : Session) (e m : ℕ) (h : Within (s .enabled) e) (r : Sound s) (r�
         facts = record {
           makes = record {
             basic = told-basic s r q a found;
-            is-sound = told-sound s r q a found;
+            is-sound = told-sound s r q a found (few a);
             narrow = λ n _. record { hello = n .hello; next = n .next };
             uses = told-uses s r q a found;
             enabling = refl;

@@ -4,7 +4,7 @@ use mathlib.Core.Bool.{Bool, _&&_}
 use Rattle.choice.specs.Pick.{pick}
 use Rattle.sets.specs.Set.{one, union, below}
 use Rattle.refusals.specs.Refusals.{notRefused, outOfRange}
-use Rattle.kinds.specs.Kinds.{applicationCount, kindCount}
+use Rattle.kinds.specs.Kinds.{applicationCount, kindCount, capabilityCount}
 use Rattle.wishes.specs.Wishes.{soundWishes}
 use Rattle.session.specs.declared.Session.{Session}
 use Rattle.session.specs.declared.Settings.{Settings}
@@ -24,12 +24,16 @@ roleFlags initiating active usesTac drops =
 
 -- the fresh session of what is settled
 abbrev pub freshBy : Settings → Session
-freshBy t = fresh (roleFlags (t .initiating) (t .active) (t .«uses_tac») (t .drops)) (t .«protected_kinds») (t .enabled) (t .«first_number»)
+freshBy t = fresh (roleFlags (t .initiating) (t .active) (t .«uses_tac») (t .drops)) (t .«protected_kinds») (t .enabled) (t .capabilities) (t .«first_number»)
 
--- 6 for "a set with bits beyond these": kinds 0 to 9, applications 1 to 13, and of our wishes, which stand beside the session, Apps 1 to 4
+-- 6 for "a set with bits beyond these": kinds 0 to 9, applications 1 to 13, of our wishes, which stand beside the session, Apps 1 to 4, and of our
+-- capabilities "bits beyond the three"
 unfoldable pub created : Settings → Created
 created t =
-    pick (below kindCount (t .«protected_kinds») && (below applicationCount (t .enabled) && soundWishes (t .wishes))) (Fresh (freshBy t)) (Refused outOfRange)
+    pick
+    (below kindCount (t .«protected_kinds») && (below applicationCount (t .enabled) && (soundWishes (t .wishes) && below capabilityCount (t .capabilities))))
+    (Fresh (freshBy t))
+    (Refused outOfRange)
 
 -- the refusal number of each case, "0 for none"
 abbrev pub refusalOf : Created → ℕ

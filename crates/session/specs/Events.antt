@@ -10,8 +10,8 @@ use Rattle.refusals.specs.Refusals.{notRefused, outOfRange, wrongState, noRoom,
 use Rattle.kinds.specs.Kinds.{appCount, knownApplication, isIn, knownApp}
 use Rattle.area.specs.declared.Reading.{Reading}
 use Rattle.area.specs.Found.{tacStood}
-use Rattle.area.specs.Area.{readArea, part}
-use Rattle.lists.specs.Tac.{sBit, tacList}
+use Rattle.area.specs.Area.{readArea, part, sBit}
+use Rattle.lists.specs.Tac.{tacList}
 use Rattle.lists.specs.Sac.{sacList}
 use Rattle.message.specs.declared.Message.{Message}
 use Rattle.message.specs.declared.Message.the-variants.{NoMessage, Change, Wish as WishMessage}
@@ -20,7 +20,8 @@ use Rattle.wishes.specs.Wishes.{soundWishes}
 use Rattle.session.specs.declared.Session.{Session}
 use Rattle.session.specs.declared.After.{After}
 use Rattle.session.specs.Session.{stateReady, stateOpen, isReady, isOpen, isGone, usesTac, inForce, dynamic, recorded, inForceBit, dynamicBit, sound}
-use Rattle.session.specs.With.{withState, withFlags, withDisabled, withListed, backToReady, heldToReady, greeted, changed}
+use Rattle.session.specs.With.{withState, withFlags, withDisabled, withListed, withTheirs, backToReady, heldToReady, greeted, changed}
+use Rattle.session.specs.Capabilities.{theirsAtOpening, theirsAfter}
 use Rattle.session.specs.Creation.{raised}
 use Rattle.session.specs.Decisions.{Decision, Refused, Unchanged, Done, AsMismatch, Negotiate, Admit, Send, Tell, settled}
 
@@ -37,14 +38,17 @@ unlessRefused r otherwise = pick (eqb (r .refusal) notRefused) otherwise (Refuse
 abbrev pub takesTac : Session → Reading → Bool
 takesTac s r = usesTac s && tacStood r
 
--- "each opening begins with nothing disabled"; negotiation is in force where TAC is taken, "otherwise the session opens as RFC 5036 has it"
+-- "each opening begins with nothing disabled"; negotiation is in force where TAC is taken, "otherwise the session opens as RFC 5036 has it"; the peer's
+-- capabilities are those that the area holds
 unfoldable pub afterInitialization : Session → List ℕ → Reading → Session
 afterInitialization s a r =
-    withListed
+    withTheirs
+    (withListed
     (withDisabled
     (withFlags (withState s stateOpen) (raised (raised (s .flags) (takesTac s r) (one inForceBit)) (r .dynamic) (one dynamicBit)))
     (sacList (part a (r .sac)) true 0))
-    (pick (takesTac s r) (tacList (part a (r .tac)) true 0) 0)
+    (pick (takesTac s r) (tacList (part a (r .tac)) true 0) 0))
+    (theirsAtOpening r)
 
 -- told which applications are below their limit: all of them where there is no row
 unfoldable pub onInitialization : Session → List ℕ → ℕ → Decision
@@ -62,14 +66,16 @@ listAfter s v = pick (sBit v) (tacList v false (pick (inForce s) (s .listed) 0))
 unfoldable pub flagsAfter : Session → List ℕ → ℕ
 flagsAfter s v = pick (sBit v) (union (s .flags) (one inForceBit)) (minus (s .flags) (one inForceBit))
 
--- "No TAC, or a session that does not use TAC: the list and the force stay as they are"
+-- "No TAC, or a session that does not use TAC: the list and the force stay as they are"; capabilities are read alike
 unfoldable pub afterCapability : Session → List ℕ → Reading → Session
 afterCapability s a r =
-    withListed
+    withTheirs
+    (withListed
     (withDisabled
     (withFlags s (pick (takesTac s r) (flagsAfter s (part a (r .tac))) (s .flags)))
     (sacList (part a (r .sac)) false (s .disabled)))
-    (pick (takesTac s r) (listAfter s (part a (r .tac))) (s .listed))
+    (pick (takesTac s r) (listAfter s (part a (r .tac))) (s .listed)))
+    (theirsAfter (s .theirs) r)
 
 unfoldable pub onCapability : Session → List ℕ → Decision
 onCapability s a =

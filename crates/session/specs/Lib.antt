@@ -1,5 +1,6 @@
 pub mod Session
 pub mod With
+pub mod Capabilities
 pub mod Creation
 pub mod Limits
 pub mod Decisions

@@ -5,7 +5,7 @@ use lib.Dec.{ltb}
 use Rattle.choice.specs.Pick.{pick}
 use Rattle.sets.specs.Set.{has}
 use Rattle.refusals.specs.Refusals.{notRefused, outOfRange, notSound}
-use Rattle.kinds.specs.Kinds.{kindCount, opened, disables}
+use Rattle.kinds.specs.Kinds.{kindCount, opened, disables, barred}
 use Rattle.session.specs.declared.Session.{Session}
 use Rattle.session.specs.declared.Permission.{Permission}
 use Rattle.session.specs.declared.Kinds.{Kinds}
@@ -50,16 +50,28 @@ whyNotEnabled = 3
 abbrev pub whyNotListed : ℕ
 whyNotListed = 4
 
+-- the capability that the kind needs is not ours
+abbrev pub whyNotOurs : ℕ
+whyNotOurs = 5
+
+-- it is not the peer's
+abbrev pub whyNotTheirs : ℕ
+whyNotTheirs = 6
+
 -- negotiation is in force and none of these applications opens the kind
 unfoldable pub unopened : Session → ℕ → ℕ → Bool
 unopened s applications kind = inForce s && not (has (opened (s .protects) applications) kind)
+
+-- the reasons by capabilities, asked "also where negotiation is not in force"
+unfoldable pub whyBarred : Session → ℕ → ℕ
+whyBarred s kind = pick (has (barred (s .ours)) kind) whyNotOurs (pick (has (barred (s .theirs)) kind) whyNotTheirs whyPermitted)
 
 -- the first of the reasons that holds
 unfoldable pub why : Session → ℕ → ℕ
 why s kind =
     pick (not (isOpen s)) whyNotOpen
     (pick (has (disables (s .disabled)) kind) whyDisabledByPeer
-    (pick (unopened s (s .enabled) kind) whyNotEnabled (pick (unopened s (negotiated s) kind) whyNotListed whyPermitted)))
+    (pick (unopened s (s .enabled) kind) whyNotEnabled (pick (unopened s (negotiated s) kind) whyNotListed (whyBarred s kind))))
 
 -- refused, no reason
 abbrev pub noReason : ℕ → Reason

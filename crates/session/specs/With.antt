@@ -8,48 +8,66 @@ use Rattle.session.specs.declared.Session.{Session}
 use Rattle.session.specs.Session.{stateReady, stateHeld, stateGone, noState, isHeld, active, leavesGone, inForceBit, recordedBit, clearedOutOfOpen, clearedInGone}
 
 -- all fields in order
-abbrev pub sessionOf : ℕ → ℕ → ℕ → ℕ → ℕ → ℕ → ℕ → ℕ → Session
-sessionOf state flags disabled enabled listed protects hello next =
-    record { state = state; flags = flags; disabled = disabled; enabled = enabled; listed = listed; protects = protects; hello = hello; next = next }
+abbrev pub sessionOf : ℕ → ℕ → ℕ → ℕ → ℕ → ℕ → ℕ → ℕ → ℕ → ℕ → Session
+sessionOf state flags disabled enabled listed protects ours theirs hello next =
+    record {
+      state = state;
+      flags = flags;
+      disabled = disabled;
+      enabled = enabled;
+      listed = listed;
+      protects = protects;
+      ours = ours;
+      theirs = theirs;
+      hello = hello;
+      next = next;
+    }
 
 -- ---- one field
 abbrev pub withState : Session → ℕ → Session
-withState s state = sessionOf state (s .flags) (s .disabled) (s .enabled) (s .listed) (s .protects) (s .hello) (s .next)
+withState s state = sessionOf state (s .flags) (s .disabled) (s .enabled) (s .listed) (s .protects) (s .ours) (s .theirs) (s .hello) (s .next)
 
 abbrev pub withFlags : Session → ℕ → Session
-withFlags s flags = sessionOf (s .state) flags (s .disabled) (s .enabled) (s .listed) (s .protects) (s .hello) (s .next)
+withFlags s flags = sessionOf (s .state) flags (s .disabled) (s .enabled) (s .listed) (s .protects) (s .ours) (s .theirs) (s .hello) (s .next)
 
 abbrev pub withDisabled : Session → ℕ → Session
-withDisabled s disabled = sessionOf (s .state) (s .flags) disabled (s .enabled) (s .listed) (s .protects) (s .hello) (s .next)
+withDisabled s disabled = sessionOf (s .state) (s .flags) disabled (s .enabled) (s .listed) (s .protects) (s .ours) (s .theirs) (s .hello) (s .next)
 
 abbrev pub withEnabled : Session → ℕ → Session
-withEnabled s enabled = sessionOf (s .state) (s .flags) (s .disabled) enabled (s .listed) (s .protects) (s .hello) (s .next)
+withEnabled s enabled = sessionOf (s .state) (s .flags) (s .disabled) enabled (s .listed) (s .protects) (s .ours) (s .theirs) (s .hello) (s .next)
 
 abbrev pub withListed : Session → ℕ → Session
-withListed s listed = sessionOf (s .state) (s .flags) (s .disabled) (s .enabled) listed (s .protects) (s .hello) (s .next)
+withListed s listed = sessionOf (s .state) (s .flags) (s .disabled) (s .enabled) listed (s .protects) (s .ours) (s .theirs) (s .hello) (s .next)
 
 abbrev pub withProtects : Session → ℕ → Session
-withProtects s protects = sessionOf (s .state) (s .flags) (s .disabled) (s .enabled) (s .listed) protects (s .hello) (s .next)
+withProtects s protects = sessionOf (s .state) (s .flags) (s .disabled) (s .enabled) (s .listed) protects (s .ours) (s .theirs) (s .hello) (s .next)
+
+abbrev pub withOurs : Session → ℕ → Session
+withOurs s ours = sessionOf (s .state) (s .flags) (s .disabled) (s .enabled) (s .listed) (s .protects) ours (s .theirs) (s .hello) (s .next)
+
+abbrev pub withTheirs : Session → ℕ → Session
+withTheirs s theirs = sessionOf (s .state) (s .flags) (s .disabled) (s .enabled) (s .listed) (s .protects) (s .ours) theirs (s .hello) (s .next)
 
 abbrev pub withHello : Session → ℕ → Session
-withHello s hello = sessionOf (s .state) (s .flags) (s .disabled) (s .enabled) (s .listed) (s .protects) hello (s .next)
+withHello s hello = sessionOf (s .state) (s .flags) (s .disabled) (s .enabled) (s .listed) (s .protects) (s .ours) (s .theirs) hello (s .next)
 
 abbrev pub withNext : Session → ℕ → Session
-withNext s next = sessionOf (s .state) (s .flags) (s .disabled) (s .enabled) (s .listed) (s .protects) (s .hello) next
+withNext s next = sessionOf (s .state) (s .flags) (s .disabled) (s .enabled) (s .listed) (s .protects) (s .ours) (s .theirs) (s .hello) next
 
 -- ---- none, and a fresh one
 -- what stands where there is no session: past the end of a row, or in a record with another length, kind or zero octet. It is not sound
 abbrev pub noSession : Session
-noSession = sessionOf noState 0 0 0 0 0 0 0
+noSession = sessionOf noState 0 0 0 0 0 0 0 0 0
 
 -- "A fresh session has state Ready and no Hello recorded"
-abbrev pub fresh : ℕ → ℕ → ℕ → ℕ → Session
-fresh flags protects enabled first = sessionOf stateReady flags 0 enabled 0 protects 0 first
+abbrev pub fresh : ℕ → ℕ → ℕ → ℕ → ℕ → Session
+fresh flags protects enabled ours first = sessionOf stateReady flags 0 enabled 0 protects ours 0 0 first
 
 -- ---- the sessions that events make
--- out of Open, in a state: "clears the peer's list, the disabled kinds, the force and the peer's dynamic flag"; also other flags where named
+-- out of Open, in a state: "clears the peer's list, the disabled kinds, the force and the peer's dynamic flag", and by L4 its capabilities; also other
+-- flags where named
 abbrev pub outOfOpen : Session → ℕ → ℕ → ℕ → Session
-outOfOpen s state off hello = withHello (withListed (withDisabled (withFlags (withState s state) (minus (s .flags) off)) 0) 0) hello
+outOfOpen s state off hello = withHello (withTheirs (withListed (withDisabled (withFlags (withState s state) (minus (s .flags) off)) 0) 0) 0) hello
 
 -- the session Ready again: connection closed, or the mismatch of a passive end
 abbrev pub backToReady : Session → Session

@@ -4,13 +4,16 @@ ghost use Rattle.session.specs.Creation.{roleFlags, created};
 use crate::Created;
 use crate::Session;
 use crate::Settings;
+use kinds::Capability;
 use kinds::TaId;
 
 impl Session {
-    // Sets of applications 1 to 13, and of kinds 0 to 9, are below these.
+    // Sets of applications 1 to 13, of kinds 0 to 9, and of the three capabilities, are below these.
     pub const APPLICATIONS_LIMIT: u32 = 1 << TaId::COUNT;
 
     pub const KINDS_LIMIT: u32 = 1 << kinds::KIND_COUNT;
+
+    pub const CAPABILITIES_LIMIT: u32 = 1 << Capability::COUNT;
 
     // What is settled at creation, as flags.
     fn roles(initiating: bool, active: bool, uses_tac: bool, drops: bool) -> u8
@@ -35,7 +38,10 @@ impl Session {
             settings.drops,
         );
         let kept = wishes::sound(settings.wishes);
-        if (protects < Self::KINDS_LIMIT) & ((enabled < Self::APPLICATIONS_LIMIT) & kept) {
+        let ours = settings.capabilities;
+        if (protects < Self::KINDS_LIMIT)
+            & ((enabled < Self::APPLICATIONS_LIMIT) & (kept & (ours < Self::CAPABILITIES_LIMIT)))
+        {
             return Created::Fresh(Session {
                 state: Self::READY,
                 flags: roles,
@@ -43,6 +49,8 @@ impl Session {
                 enabled: enabled as u16,
                 listed: 0,
                 protects: protects as u16,
+                ours: ours as u8,
+                theirs: 0,
                 hello: 0,
                 next: settings.first_number,
             });

@@ -49,6 +49,8 @@ impl Session {
             enabled: self.enabled,
             listed,
             protects: self.protects,
+            ours: self.ours,
+            theirs: found.capabilities,
             hello: self.hello,
             next: self.next,
         }

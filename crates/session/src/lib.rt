@@ -1,10 +1,10 @@
-// One targeted session, in numbers: the stored record's fields under document 01's names. Every bit pattern is a value; `sound` says which of
-// them is a session, and every event asks it first.
+// One targeted session, in numbers: the stored record's fields under document 01's names, and the capabilities of both ends. Every bit pattern is a
+// value; `sound` says which of them is a session, and every event asks it first.
 ghost use mathlib.Core.Path.{_≡_};
 ghost use Prim.Native.Nat.{_<_};
 ghost use Rattle.choice.specs.Pick.{pick};
 ghost use Rattle.sets.specs.Set.{minus};
-ghost use Rattle.session.specs.Session.{active, usesTac, inForce, dynamic, recorded, leavesGone, negotiated, nothingCommon};
+ghost use Rattle.session.specs.Session.{active, usesTac, inForce, dynamic, recorded, leavesGone, negotiated, held, nothingCommon};
 ghost use Rattle.session.specs.With.{heldToReady, noSession};
 ghost use Rattle.session.specs.Creation.{raised};
 
@@ -31,6 +31,8 @@ pub struct Session {
     pub enabled: u16,
     pub listed: u16,
     pub protects: u16,
+    pub ours: u8,
+    pub theirs: u8,
     pub hello: u32,
     pub next: u32,
 }
@@ -52,7 +54,7 @@ pub struct After {
     pub answer: Answer,
 }
 
-// What is settled at creation, and our wishes.
+// What is settled at creation, our capabilities among it, and our wishes.
 #[repr(C)]
 pub struct Settings {
     pub initiating: bool,
@@ -63,6 +65,7 @@ pub struct Settings {
     pub enabled: u32,
     pub first_number: u32,
     pub wishes: u32,
+    pub capabilities: u32,
 }
 
 // What creation answers.
@@ -158,6 +161,8 @@ impl Session {
             enabled: 0,
             listed: 0,
             protects: 0,
+            ours: 0,
+            theirs: 0,
             hello: 0,
             next: 0,
         }
@@ -206,6 +211,13 @@ impl Session {
         ensures { λ r. ⌜ r ≡ negotiated self ⌝ }
     {
         sets::common(self.enabled, self.listed)
+    }
+
+    // The capabilities that both ends hold.
+    fn held(self) -> u8
+        ensures { λ r. ⌜ r ≡ held self ⌝ }
+    {
+        sets::common(self.ours as u16, self.theirs as u16) as u8
     }
 
     // In force with no application both enabled and listed.

@@ -16,6 +16,7 @@ impl Session {
         self.flags = crate::lowered(self.flags, off);
         self.disabled = 0;
         self.listed = 0;
+        self.theirs = 0;
         self.hello = hello;
         self
     }

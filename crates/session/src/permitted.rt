@@ -11,8 +11,9 @@ impl Session {
     {
         let opened = kinds::opened(self.negotiated(), self.protects);
         let open = crate::pick(self.in_force(), opened, kinds::ALL_KINDS);
-        let permitted = sets::minus(open, kinds::disables(self.disabled));
-        crate::pick(self.state == Self::OPEN, permitted, 0)
+        let allowed = sets::minus(open, kinds::disables(self.disabled));
+        let base = crate::pick(self.state == Self::OPEN, allowed, 0);
+        sets::minus(base, kinds::barred(self.held()))
     }
 
     // Whether one kind is among them; the other nine are not looked at.
@@ -21,6 +22,9 @@ impl Session {
     {
         if self.state == Self::OPEN {
             if kinds::disables_kind(self.disabled, kind) {
+                return false;
+            }
+            if kinds::bars_kind(self.held(), kind) {
                 return false;
             }
             if self.in_force() {

@@ -5,7 +5,7 @@ ghost use Rattle.choice.specs.Pick.{pick};
 ghost use Rattle.sets.specs.Set.{has};
 ghost use Rattle.kinds.specs.Kinds.{opened};
 ghost use Rattle.session.specs.Session.{negotiated};
-ghost use Rattle.session.specs.Questions.{whyPermitted, whyNotEnabled, whyNotListed, permittedKinds, permission, why, whyNot, retryInterval};
+ghost use Rattle.session.specs.Questions.{whyNotEnabled, whyNotListed, whyBarred, permittedKinds, permission, why, whyNot, retryInterval};
 use crate::Kinds;
 use crate::Permission;
 use crate::Reason;
@@ -25,6 +25,10 @@ impl Session {
     const NOT_ENABLED: u8 = 3;
 
     const NOT_LISTED: u8 = 4;
+
+    const NOT_OURS: u8 = 5;
+
+    const NOT_THEIRS: u8 = 6;
 
     // The set of the kinds that may be sent.
     pub fn permitted_kinds(self) -> Kinds
@@ -70,12 +74,25 @@ impl Session {
         }
     }
 
+    // The reasons by capabilities: the one that the kind needs is not ours, or not the peer's.
+    fn why_barred(self, kind: u16) -> u8
+        ensures { λ r. ⌜ r ≡ whyBarred self kind ⌝ }
+    {
+        if kinds::bars_kind(self.ours, kind) {
+            return Self::NOT_OURS;
+        }
+        if kinds::bars_kind(self.theirs, kind) {
+            return Self::NOT_THEIRS;
+        }
+        Self::PERMITTED
+    }
+
     // The reasons of negotiation in force: an application that opens the kind is both enabled and listed, or enabled, or neither.
     fn why_in_force(self, kind: u16) -> u8
-        ensures { λ r. ⌜ r ≡ pick (not (has (opened (self .protects) (self .enabled)) kind)) whyNotEnabled (pick (not (has (opened (self .protects) (negotiated self)) kind)) whyNotListed whyPermitted) ⌝ }
+        ensures { λ r. ⌜ r ≡ pick (not (has (opened (self .protects) (self .enabled)) kind)) whyNotEnabled (pick (not (has (opened (self .protects) (negotiated self)) kind)) whyNotListed (whyBarred self kind)) ⌝ }
     {
         if kinds::opens_kind(self.negotiated(), self.protects, kind) {
-            return Self::PERMITTED;
+            return self.why_barred(kind);
         }
         if kinds::opens_kind(self.enabled, self.protects, kind) {
             return Self::NOT_LISTED;
@@ -96,7 +113,7 @@ impl Session {
         if self.in_force() {
             return self.why_in_force(kind);
         }
-        Self::PERMITTED
+        self.why_barred(kind)
     }
 
     // Why one kind may not be sent.

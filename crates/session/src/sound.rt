@@ -5,6 +5,7 @@ ghost use Rattle.choice.specs.Pick.{pick};
 ghost use Rattle.sets.specs.Set.{common, empty};
 ghost use Rattle.session.specs.Session.{usesTac, inForce, clearedOutOfOpen, negotiated, spareZero, helloSound, heldSound, goneSound, sound};
 use crate::Session;
+use kinds::Capability;
 use kinds::SacApp;
 use kinds::TaId;
 
@@ -18,6 +19,8 @@ impl Session {
 
     const APPS_END: u8 = 1 << SacApp::COUNT;
 
+    const CAPABILITIES_END: u8 = 1 << Capability::COUNT;
+
     // The state is one of the four, and no spare bit is set.
     fn spare_zero(self) -> bool
         ensures { λ r. ⌜ r ≡ spareZero self ⌝ }
@@ -26,7 +29,10 @@ impl Session {
             return (self.flags < Self::FLAGS_END)
                 & ((self.enabled < Self::APPLICATIONS_END)
                     & ((self.listed < Self::APPLICATIONS_END)
-                        & ((self.protects < Self::KINDS_END) & (self.disabled < Self::APPS_END))));
+                        & ((self.protects < Self::KINDS_END)
+                            & ((self.disabled < Self::APPS_END)
+                                & ((self.ours < Self::CAPABILITIES_END)
+                                    & (self.theirs < Self::CAPABILITIES_END))))));
         }
         false
     }
@@ -41,13 +47,13 @@ impl Session {
         self.listed == 0
     }
 
-    // In no other state in force, listed, disabled or dynamic. Held only if active and not (initiating and drops). Gone only if active, initiating
+    // In no other state in force, listed, disabled or dynamic, and no capability of the peer. Held only if active and not (initiating and drops). Gone only if active, initiating
     // and drops, with no Hello recorded.
     fn shut_sound(self) -> bool
-        ensures { λ r. ⌜ r ≡ pick (empty (common (self .flags) clearedOutOfOpen) && (empty (self .listed) && empty (self .disabled))) (heldSound self && goneSound self) false ⌝ }
+        ensures { λ r. ⌜ r ≡ pick (empty (common (self .flags) clearedOutOfOpen) && (empty (self .listed) && (empty (self .disabled) && empty (self .theirs)))) (heldSound self && goneSound self) false ⌝ }
     {
         if (sets::common(self.flags as u16, Self::CLEARED_OUT_OF_OPEN) == 0)
-            & ((self.listed == 0) & (self.disabled == 0))
+            & ((self.listed == 0) & ((self.disabled == 0) & (self.theirs == 0)))
         {
             if self.state == Self::HELD {
                 return self.active() & !self.leaves_gone();

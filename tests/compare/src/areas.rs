@@ -1,14 +1,16 @@
 //! Parameter areas, well formed and damaged.
 
 use crate::numbers::Numbers;
-use crate::widths::APPLICATIONS;
+use crate::widths::{APPLICATIONS, CAPABILITIES};
 
 const TAC: u16 = 0x050F;
 const SAC: u16 = 0x050D;
 const DYNAMIC: u16 = 0x0506;
-const OURS: [u16; 3] = [TAC, SAC, DYNAMIC];
 
-const U: u16 = 0x8000;
+/// P2MP, MP2MP and HSMP, in the order of their bits.
+pub const CAPABILITY_TYPES: [u16; CAPABILITIES] = [0x0508, 0x0509, 0x0902];
+
+pub const U: u16 = 0x8000;
 const F: u16 = 0x4000;
 
 const LARGEST: usize = 4096;
@@ -33,6 +35,17 @@ impl Tlv {
     fn kind(&self) -> u16 {
         self.head & 0x3FFF
     }
+}
+
+/// Is this one of the types that we read?
+fn is_ours(kind: u16) -> bool {
+    [TAC, SAC, DYNAMIC].contains(&kind) || CAPABILITY_TYPES.contains(&kind)
+}
+
+/// One of them, each of the first three as often as all capabilities.
+fn one_of_ours(numbers: &mut Numbers) -> u16 {
+    let capability = numbers.one_of(&CAPABILITY_TYPES);
+    numbers.one_of(&[TAC, SAC, DYNAMIC, capability])
 }
 
 fn flatten(tlvs: &[Tlv]) -> Vec<u8> {
@@ -75,6 +88,7 @@ fn good_tlvs(numbers: &mut Numbers, hint: u16) -> Vec<Tlv> {
     for _ in 0..numbers.weighted(&[60, 25, 10, 5]) {
         tlvs.push(passed_over(numbers));
     }
+    push_capabilities(numbers, &mut tlvs);
     // One list may be as long as the area lets it.
     let long = numbers.weighted(&[950, 25, 25]);
     if long != 1 && numbers.chance(75) {
@@ -156,6 +170,29 @@ fn push_tac(numbers: &mut Numbers, hint: u16, count: usize, tlvs: &mut Vec<Tlv>)
 fn push_sac(numbers: &mut Numbers, count: usize, tlvs: &mut Vec<Tlv>) {
     let value = sac(numbers, count);
     tlvs.push(Tlv::new(our_head(numbers, SAC), value));
+}
+
+/// None of the capabilities, all or some; with S = 1, with S = 0 or with both.
+fn push_capabilities(numbers: &mut Numbers, tlvs: &mut Vec<Tlv>) {
+    let present = numbers.one_of(&[0, 0, 30, 60, 100]);
+    let holding = numbers.one_of(&[100, 70, 40, 0]);
+    for kind in CAPABILITY_TYPES {
+        if numbers.chance(present) {
+            push_capability(numbers, kind, holding, tlvs);
+        }
+    }
+}
+
+/// One capability, with S = 1 so many times out of a hundred.
+fn push_capability(numbers: &mut Numbers, kind: u16, holding: usize, tlvs: &mut Vec<Tlv>) {
+    let mut octet = 0;
+    if numbers.chance(holding) {
+        octet |= 0x80;
+    }
+    if numbers.flag() {
+        octet |= numbers.octet() & 0x7F;
+    }
+    tlvs.push(Tlv::new(our_head(numbers, kind), vec![octet]));
 }
 
 fn tac(numbers: &mut Numbers, hint: u16, count: usize) -> Vec<u8> {
@@ -251,7 +288,9 @@ fn sac(numbers: &mut Numbers, count: usize) -> Vec<u8> {
 fn passed_over(numbers: &mut Numbers) -> Tlv {
     let (kind, u) = if numbers.flag() {
         let kind = match numbers.below(3) {
-            0 => numbers.one_of(&[0x0500, 0x0501, 0x0507, 0x050C, 0x050E, 0x0510, 0x05FF]),
+            0 => numbers.one_of(&[
+                0x0500, 0x0501, 0x0507, 0x050A, 0x050C, 0x050E, 0x0510, 0x0502, 0x05FF,
+            ]),
             _ => other_type(numbers, 0x0500, 0x05FF),
         };
         (kind, numbers.flag())
@@ -287,9 +326,12 @@ fn unread(numbers: &mut Numbers, kind: u16, u: bool) -> Tlv {
 
 /// A type outside the capability parameters, near them or far off.
 fn anywhere_else(numbers: &mut Numbers) -> u16 {
-    match numbers.below(4) {
+    match numbers.below(5) {
         0 => numbers.one_of(&[0x04FF, 0x0600, 0x0400, 0x060F, 0x060D, 0x0606]),
         1 => numbers.one_of(&[0x0000, 0x0100, 0x0200, 0x3FFF, 0x150F, 0x250F, 0x0F05]),
+        4 => numbers.one_of(&[
+            0x0900, 0x0901, 0x0903, 0x0906, 0x0908, 0x0802, 0x0A02, 0x1902,
+        ]),
         2 => other_type(numbers, 0x0000, 0x04FF),
         _ => other_type(numbers, 0x0600, 0x3FFF),
     }
@@ -298,7 +340,7 @@ fn anywhere_else(numbers: &mut Numbers) -> u16 {
 fn other_type(numbers: &mut Numbers, low: usize, high: usize) -> u16 {
     loop {
         let kind = numbers.between(low, high) as u16;
-        if !OURS.contains(&kind) {
+        if !is_ours(kind) {
             return kind;
         }
     }
@@ -320,7 +362,7 @@ fn fill_to(numbers: &mut Numbers, area: &mut Vec<u8>, length: usize) {
 /// An area with something wrong in it, most of the time.
 pub fn damaged(numbers: &mut Numbers, hint: u16) -> Vec<u8> {
     let mut tlvs = good_tlvs(numbers, hint);
-    let sort = numbers.weighted(&[10, 6, 8, 14, 12, 12, 12, 6, 4, 6, 8, 4]);
+    let sort = numbers.weighted(&[10, 6, 8, 14, 18, 12, 12, 6, 4, 6, 8, 4]);
     match sort {
         // A length field that does not fit its value.
         2 if !tlvs.is_empty() => {
@@ -335,8 +377,11 @@ pub fn damaged(numbers: &mut Numbers, hint: u16) -> Vec<u8> {
         }
         // One of ours with a length of its own.
         3 => {
-            let kind = numbers.one_of(&OURS);
-            let length = numbers.between(0, 10);
+            let kind = one_of_ours(numbers);
+            let length = match CAPABILITY_TYPES.contains(&kind) {
+                true => numbers.one_of(&[0, 0, 2, 2, 3, 5]),
+                false => numbers.between(0, 10),
+            };
             let value = numbers.octets(length);
             tlvs.retain(|tlv| tlv.kind() != kind);
             let tlv = Tlv::new(our_head(numbers, kind), value);
@@ -344,7 +389,10 @@ pub fn damaged(numbers: &mut Numbers, hint: u16) -> Vec<u8> {
         }
         // One of ours once more, the same or of any length.
         4 => {
-            let kind = numbers.one_of(&OURS);
+            let kind = one_of_ours(numbers);
+            if CAPABILITY_TYPES.contains(&kind) && !tlvs.iter().any(|tlv| tlv.kind() == kind) {
+                push_capability(numbers, kind, 50, &mut tlvs);
+            }
             let length = numbers.between(0, 6);
             let value = match tlvs.iter().find(|tlv| tlv.kind() == kind) {
                 Some(tlv) if numbers.flag() => tlv.value.clone(),
@@ -364,7 +412,7 @@ pub fn damaged(numbers: &mut Numbers, hint: u16) -> Vec<u8> {
                 let mut last = if numbers.flag() {
                     turned_down(numbers)
                 } else {
-                    let kind = numbers.one_of(&OURS);
+                    let kind = one_of_ours(numbers);
                     let length = numbers.below(4);
                     let value = numbers.octets(length);
                     Tlv::new(our_head(numbers, kind), value)

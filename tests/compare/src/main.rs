@@ -10,6 +10,7 @@
 
 mod areas;
 mod call;
+mod capabilities;
 mod notes;
 mod numbers;
 mod reachable;

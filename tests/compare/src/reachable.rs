@@ -4,7 +4,7 @@ use crate::call::{Which, ROW_EVENTS};
 use crate::tally::Place::{self, Gone, Held, Open, Outside, Ready, Unsound};
 use crate::tally::What::{self, Note, Outcome, Refusal};
 use crate::tally::{Item, STATES};
-use crate::{notes, totals};
+use crate::{capabilities, notes, totals};
 use std::collections::BTreeSet;
 
 /// The names of events that are told by their numbers.
@@ -63,6 +63,9 @@ pub fn reachable() -> BTreeSet<Item> {
     for note in notes::OF_LISTS {
         add("long list", Place::None, Note(note));
     }
+    for (table, note) in capabilities::all() {
+        add(table, Place::None, Note(note));
+    }
     items
 }
 
@@ -79,6 +82,8 @@ fn reasons(add: &mut Add) {
         "disabled by the peer",
         "not enabled",
         "not listed",
+        "capability not ours",
+        "capability not theirs",
     ] {
         add("why_not", Open, Note(note));
     }

@@ -1,10 +1,13 @@
 //! Stored records, sound and not.
 
 use crate::numbers::Numbers;
-use crate::widths::{ALL_APPLICATIONS, ALL_APPS, ALL_KINDS, APPLICATIONS, APPS, KINDS};
+use crate::widths::{
+    ALL_APPLICATIONS, ALL_APPS, ALL_CAPABILITIES, ALL_KINDS, APPLICATIONS, APPS, CAPABILITIES,
+    KINDS,
+};
 use second::{Fields, Settings};
 
-pub const LENGTH: usize = 22;
+pub const LENGTH: usize = 24;
 
 pub const READY: u8 = 0;
 pub const OPEN: u8 = 1;
@@ -28,6 +31,7 @@ pub fn stored(session: &Fields) -> Vec<u8> {
     octets.extend([session.disabled, 0]);
     octets.extend(session.hello.to_le_bytes());
     octets.extend(session.next.to_le_bytes());
+    octets.extend([session.ours, session.theirs]);
     octets
 }
 
@@ -45,6 +49,8 @@ pub fn fields(record: &[u8]) -> Fields {
         enabled: pair(6),
         listed: pair(8),
         protects: pair(10),
+        ours: record[22],
+        theirs: record[23],
         hello: number(14),
         next: number(18),
     }
@@ -85,6 +91,15 @@ pub fn wishes(numbers: &mut Numbers) -> u32 {
     }
 }
 
+/// A set of capabilities: all, none or some.
+pub fn capabilities(numbers: &mut Numbers) -> u8 {
+    match numbers.below(6) {
+        0 | 1 => ALL_CAPABILITIES,
+        2 => 0,
+        _ => numbers.octet() & ALL_CAPABILITIES,
+    }
+}
+
 /// A set with something beyond its width.
 pub fn beyond(numbers: &mut Numbers, set: u32, width: usize) -> u32 {
     match numbers.below(4) {
@@ -106,13 +121,15 @@ pub fn settings(numbers: &mut Numbers) -> Settings {
         enabled: applications(numbers).into(),
         first_number: word(numbers),
         wishes: wishes(numbers),
+        capabilities: capabilities(numbers).into(),
     };
     for (set, width) in [
         (&mut settings.protected_kinds, KINDS),
         (&mut settings.enabled, APPLICATIONS),
         (&mut settings.wishes, APPS),
+        (&mut settings.capabilities, CAPABILITIES),
     ] {
-        if numbers.chance(12) {
+        if numbers.chance(10) {
             *set = beyond(numbers, *set, width);
         }
     }
@@ -170,10 +187,16 @@ pub fn sound_session(numbers: &mut Numbers) -> Fields {
         flags,
         enabled: applications(numbers),
         protects: kinds(numbers),
+        ours: capabilities(numbers),
         next: word(numbers),
         ..Fields::default()
     };
     if state == OPEN {
+        fields.theirs = capabilities(numbers);
+        // What both hold is what shows.
+        if numbers.chance(30) {
+            fields.theirs |= fields.ours;
+        }
         if numbers.chance(70) {
             fields.flags |= DYNAMIC;
         }
@@ -215,6 +238,11 @@ fn unruly(numbers: &mut Numbers) -> Vec<u8> {
             let disabled = u32::from(numbers.octet() & 0x0F);
             sparse(numbers, disabled) as u8
         },
+        ours: capabilities(numbers),
+        theirs: {
+            let theirs = capabilities(numbers).into();
+            sparse(numbers, theirs) as u8
+        },
         hello: {
             let hello = word(numbers);
             sparse(numbers, hello)
@@ -230,6 +258,7 @@ fn by_role(numbers: &mut Numbers) -> Vec<u8> {
         flags: numbers.octet() & (INITIATING | ACTIVE | USES_TAC | DROPS),
         enabled: applications(numbers),
         protects: kinds(numbers),
+        ours: capabilities(numbers),
         next: word(numbers),
         ..Fields::default()
     };
@@ -243,7 +272,7 @@ fn by_role(numbers: &mut Numbers) -> Vec<u8> {
 /// A sound record with one rule between its fields broken.
 fn one_rule_broken(numbers: &mut Numbers) -> Vec<u8> {
     let mut octets = sound(numbers);
-    match numbers.below(8) {
+    match numbers.below(9) {
         0 => octets[4] = numbers.below(6) as u8,
         1 => octets[5] ^= numbers.one_of(&[IN_FORCE, DYNAMIC, HELLO, USES_TAC, ACTIVE, DROPS]),
         2 => octets[12] |= 1 << numbers.below(4),
@@ -251,6 +280,7 @@ fn one_rule_broken(numbers: &mut Numbers) -> Vec<u8> {
         4 => (octets[8], octets[9]) = (0, 0),
         5 => octets[14 + numbers.below(4)] |= 1 << numbers.below(8),
         6 => (octets[6], octets[7]) = (0, 0),
+        7 => octets[23] |= 1 << numbers.below(CAPABILITIES),
         _ => octets[numbers.one_of(&[0, 1, 2, 3, 13])] ^= 1 << numbers.below(8),
     }
     octets
@@ -259,12 +289,14 @@ fn one_rule_broken(numbers: &mut Numbers) -> Vec<u8> {
 /// A session with a bit set that stands for nothing.
 fn one_spare_bit(numbers: &mut Numbers) -> Fields {
     let mut session = sound_session(numbers);
-    match numbers.below(6) {
+    match numbers.below(9) {
         0 => session.state |= 4 << numbers.below(6),
         1 => session.flags |= 0x80,
         2 => session.disabled |= 0x10 << numbers.below(4),
         3 => session.enabled |= 0x2000 << numbers.below(3),
         4 => session.listed |= 0x2000 << numbers.below(3),
+        5 | 6 => session.ours |= 0x08 << numbers.below(5),
+        7 => session.theirs |= 0x08 << numbers.below(5),
         _ => session.protects |= 0x400 << numbers.below(6),
     }
     session
@@ -277,7 +309,8 @@ pub fn damaged_session(numbers: &mut Numbers) -> Fields {
         1 => unruly(numbers),
         2 => {
             let mut octets = sound(numbers);
-            octets[numbers.between(4, 12)] ^= 1 << numbers.below(8);
+            let (capabilities, other) = (numbers.between(22, 23), numbers.between(4, 12));
+            octets[numbers.one_of(&[other, other, other, capabilities])] ^= 1 << numbers.below(8);
             octets
         }
         3 => by_role(numbers),
@@ -289,7 +322,7 @@ pub fn damaged_session(numbers: &mut Numbers) -> Fields {
 
 /// A record of any sort.
 pub fn any(numbers: &mut Numbers) -> Vec<u8> {
-    match numbers.weighted(&[38, 20, 10, 12, 8, 3, 5, 4]) {
+    match numbers.weighted(&[38, 18, 10, 12, 8, 3, 6, 4, 4]) {
         0 => sound(numbers),
         1 => {
             let mut octets = sound(numbers);
@@ -306,6 +339,7 @@ pub fn any(numbers: &mut Numbers) -> Vec<u8> {
             octets.resize(length, filler);
             octets
         }
+        8 => stored(&one_spare_bit(numbers)),
         _ => {
             let length = any_length(numbers);
             numbers.octets(length)

@@ -146,7 +146,7 @@ pub fn single(numbers: &mut Numbers) -> Call {
         2 => return Call::on_row(Which::Recount, row),
         _ => {}
     }
-    let which = numbers.weighted(&[44, 14, 16, 6, 9, 6, 5]);
+    let which = numbers.weighted(&[40, 18, 16, 6, 9, 6, 5]);
     let at = if row.is_empty() || numbers.chance(12) {
         rows::outside(numbers, row.len())
     } else {

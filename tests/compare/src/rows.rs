@@ -9,9 +9,18 @@ use second::{recount, Fields, Limits, Totals};
 /// The most sessions that a row may have.
 pub const LONGEST: usize = 64;
 
-/// A set of one to three applications.
+/// Session Protection, and the kinds which need a capability.
+const PROTECTION: u16 = 1 << 7;
+const MULTIPOINT: u16 = 0x07C;
+
+/// A set of one to three applications, or of one that may open kinds which need a
+/// capability, and more.
 pub fn few(numbers: &mut Numbers) -> u16 {
-    (0..numbers.between(1, 3)).fold(0, |set, _| set | 1 << numbers.below(APPLICATIONS))
+    let multipoint = match numbers.chance(20) {
+        true => 1 << (numbers.one_of(&[3, 8, 8, 11]) - 1),
+        false => 0,
+    };
+    (0..numbers.between(1, 3)).fold(multipoint, |set, _| set | 1 << numbers.below(APPLICATIONS))
 }
 
 /// Some of a set, one at least.
@@ -43,6 +52,7 @@ pub fn fresh(numbers: &mut Numbers, few: u16) -> Fields {
         flags,
         enabled,
         protects: records::kinds(numbers),
+        ours: records::capabilities(numbers),
         next: records::word(numbers),
         ..Fields::default()
     }
@@ -55,6 +65,9 @@ fn session(numbers: &mut Numbers, few: u16) -> Fields {
         return session;
     }
     session.enabled = some_of(numbers, few);
+    if few & PROTECTION != 0 && numbers.flag() {
+        session.protects |= MULTIPOINT;
+    }
     if session.flags & IN_FORCE != 0 {
         session.listed = session.enabled;
         // Enabled alone and listed alone must not count.

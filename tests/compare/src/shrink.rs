@@ -168,7 +168,7 @@ fn usual_limits(call: &Call, take: &mut dyn FnMut(Call) -> bool) -> bool {
 }
 
 /// Fields that go together: no Hello; not in force; nothing that only Open may
-/// have; an application off both lists.
+/// have; an application off both lists; a capability of neither end.
 fn plainer_fields(session: &Fields, take: &mut dyn FnMut(Fields) -> bool) -> bool {
     let out_of_force = Fields {
         flags: session.flags & !records::IN_FORCE,
@@ -184,12 +184,20 @@ fn plainer_fields(session: &Fields, take: &mut dyn FnMut(Fields) -> bool) -> boo
             state: records::READY,
             flags: out_of_force.flags & !records::DYNAMIC,
             disabled: 0,
+            theirs: 0,
             ..out_of_force
         })
         || (0..16).any(|bit| {
             take(Fields {
                 enabled: session.enabled & !(1 << bit),
                 listed: session.listed & !(1 << bit),
+                ..*session
+            })
+        })
+        || (0..8).any(|bit| {
+            take(Fields {
+                ours: session.ours & !(1 << bit),
+                theirs: session.theirs & !(1 << bit),
                 ..*session
             })
         })

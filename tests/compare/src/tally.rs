@@ -2,7 +2,7 @@
 
 use crate::call::{Call, Left, Said, Seen, Which};
 use crate::reachable::{reachable, BY_NUMBER, NO_EVENT};
-use crate::{notes, records, rows, totals};
+use crate::{capabilities, notes, records, rows, totals};
 use second::{Answer, Fields};
 use std::collections::{BTreeMap, BTreeSet};
 use std::fmt;
@@ -128,7 +128,7 @@ fn name(call: &Call) -> &'static str {
 }
 
 /// The session of an event before and after; none if it should have been refused.
-fn sessions(call: &Call, left: &Left) -> (Fields, Fields) {
+pub fn sessions(call: &Call, left: &Left) -> (Fields, Fields) {
     if call.takes("at") {
         let session = |row: &[Fields]| row.get(call.at as usize).copied().unwrap_or_default();
         return (session(&call.row), session(&left.row));
@@ -156,6 +156,10 @@ impl Tally {
         }
         for note in notes::of_lists(call, seen) {
             self.met(("long list", Place::None, What::Note(note)));
+        }
+        let held = capabilities::table(call);
+        for note in capabilities::notes(call, before, seen) {
+            self.met((held, Place::None, What::Note(note)));
         }
         let mut met = |what| self.met((name, before, what));
         if let Some(answer) = event(&seen.said) {
@@ -192,6 +196,8 @@ impl Tally {
                 2 => "disabled by the peer",
                 3 => "not enabled",
                 4 => "not listed",
+                5 => "capability not ours",
+                6 => "capability not theirs",
                 _ => "some other reason",
             })),
             Said::Kinds(answer) if answer.refusal == 0 => met(What::Note(match answer.kinds {

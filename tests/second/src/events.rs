@@ -51,6 +51,8 @@ impl Session {
             listed: self
                 .heeded(found.tac)
                 .map(|tac| ApplicationSet::announced(tac.of(area))),
+            // S is not read.
+            theirs: found.capabilities(),
         };
         let mut outcome = self.settle();
         if outcome == Outcome::Done && self.at_limit(below) {
@@ -68,6 +70,8 @@ impl Session {
         if let Some(sac) = update.sac {
             self.peer.disabled = self.peer.disabled.updated(sac.of(area));
         }
+        let (present, holding) = (update.capabilities(), update.holding(area));
+        self.peer.theirs = self.peer.theirs.updated(present, holding);
         if let Some(tac) = self.heeded(update.tac) {
             let value = tac.of(area);
             self.peer.listed = if tac_advertises(value) {

@@ -14,6 +14,8 @@ pub struct Fields {
     pub enabled: u16,
     pub listed: u16,
     pub protects: u16,
+    pub ours: u8,
+    pub theirs: u8,
     pub hello: u32,
     pub next: u32,
 }
@@ -35,6 +37,8 @@ impl Fields {
         enabled: 0,
         listed: 0,
         protects: 0,
+        ours: 0,
+        theirs: 0,
         hello: 0,
         next: 0,
     };
@@ -52,6 +56,8 @@ impl Fields {
             enabled: pair(6),
             listed: pair(8),
             protects: pair(10),
+            ours: octets[22],
+            theirs: octets[23],
             hello: number(14),
             next: number(18),
         }
@@ -74,6 +80,8 @@ impl Fields {
         octets[12] = self.disabled;
         octets[14..18].copy_from_slice(&self.hello.to_le_bytes());
         octets[18..22].copy_from_slice(&self.next.to_le_bytes());
+        octets[22] = self.ours;
+        octets[23] = self.theirs;
         octets
     }
 }

@@ -3,28 +3,30 @@
 //! for a row of sessions with limits and totals.
 //!
 //! Every public function works on plain octets and numbers and can be called
-//! with any of them. A session travels as its 22-octet record, or in a row as
+//! with any of them. A session travels as its 24-octet record, or in a row as
 //! its [`Fields`]; inside, it is the decoded [`session::Session`]. What is handed
 //! in and out is laid out as in C, for `tests/second_c`.
 //!
-//! | file         | idea                                                   |
-//! |--------------|--------------------------------------------------------|
-//! | `area.rs`    | the TLVs of a parameter area                           |
-//! | `lists.rs`   | the elements of TAC and SAC, and sets of applications  |
-//! | `kinds.rs`   | label kinds and who opens or controls them             |
-//! | `session.rs` | a session and what can be asked of it                  |
-//! | `events.rs`  | what happens to a session                              |
-//! | `record.rs`  | the stored form and when it is sound                   |
-//! | `message.rs` | the message written for a local change                 |
-//! | `fields.rs`  | a session as a row holds it, loaded and stored         |
-//! | `limits.rs`  | how many sessions may use each application             |
-//! | `row.rs`     | how many sessions do, and the events of one of them    |
-//! | `totals.rs`  | how many sessions of a row permit each kind, kept      |
-//! | `wishes.rs`  | of which kinds we want no bindings, and telling it     |
+//! | file              | idea                                                  |
+//! |-------------------|-------------------------------------------------------|
+//! | `area.rs`         | the TLVs of a parameter area                          |
+//! | `lists.rs`        | the elements of TAC and SAC, and sets of applications |
+//! | `kinds.rs`        | label kinds and who opens or controls them            |
+//! | `capabilities.rs` | which capability a kind needs                         |
+//! | `session.rs`      | a session and what can be asked of it                 |
+//! | `events.rs`       | what happens to a session                             |
+//! | `record.rs`       | the stored form and when it is sound                  |
+//! | `message.rs`      | the message written for a local change                |
+//! | `fields.rs`       | a session as a row holds it, loaded and stored        |
+//! | `limits.rs`       | how many sessions may use each application            |
+//! | `row.rs`          | how many sessions do, and the events of one of them   |
+//! | `totals.rs`       | how many sessions of a row permit each kind, kept     |
+//! | `wishes.rs`       | of which kinds we want no bindings, and telling it    |
 
 #![forbid(unsafe_code)]
 
 mod area;
+mod capabilities;
 mod events;
 mod fields;
 mod kinds;
@@ -46,6 +48,7 @@ pub use row::{
 pub use totals::{kind_total, RowAnswer, RowTotals, Total, Totals};
 pub use wishes::{session_wish, wanted, wish, wish_sac, Want, Wished, Written};
 
+use capabilities::CapabilitySet;
 use events::{Effect, Outcome};
 use kinds::{Kind, KindSet};
 use lists::{ApplicationSet, ControlSet};
@@ -75,6 +78,8 @@ pub struct Settings {
     pub first_number: u32,
     /// App n at bit n-1.
     pub wishes: u32,
+    /// Those that we hold: P2MP bit 0, MP2MP bit 1, HSMP bit 2.
+    pub capabilities: u32,
 }
 
 /// Where a value lies in the area that was read. Absent means 0, 0.
@@ -91,6 +96,10 @@ pub struct Part {
 pub struct Reading {
     pub refusal: u8,
     pub dynamic: u8,
+    /// The capabilities that are present, whatever their S.
+    pub capabilities: u8,
+    /// Those present with S = 1.
+    pub holding: u8,
     pub tac: Part,
     pub sac: Part,
 }
@@ -176,6 +185,8 @@ pub fn read(area: &[u8]) -> Reading {
         Ok(found) => Reading {
             refusal: 0,
             dynamic: u8::from(found.dynamic.is_some()),
+            capabilities: found.capabilities().bits(),
+            holding: found.holding(area).bits(),
             tac: found.tac.unwrap_or_default(),
             sac: found.sac.unwrap_or_default(),
         },
@@ -192,10 +203,11 @@ pub fn create(record: &mut [u8], settings: Settings) -> u8 {
     let Ok(record) = <&mut [u8; RECORD_LENGTH]>::try_from(record) else {
         return Refusal::NotSound.number();
     };
-    let (Some(protected), Some(enabled), Some(_)) = (
+    let (Some(protected), Some(enabled), Some(_), Some(ours)) = (
         KindSet::from_bits(settings.protected_kinds),
         ApplicationSet::from_bits(settings.enabled),
         ControlSet::from_bits(settings.wishes),
+        CapabilitySet::from_bits(settings.capabilities),
     ) else {
         return Refusal::OutOfRange.number();
     };
@@ -205,6 +217,7 @@ pub fn create(record: &mut [u8], settings: Settings) -> u8 {
         uses_tac: settings.uses_tac,
         drops: settings.drops,
         protected,
+        ours,
     };
     *record = record::encode(&Session::new(settled, enabled, settings.first_number));
     0

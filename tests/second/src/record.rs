@@ -13,13 +13,18 @@
 //! | 13     | nothing                                                   |
 //! | 14-17  | Hello number                                              |
 //! | 18-21  | next message number                                       |
+//! | 22     | our capabilities                                          |
+//! | 23     | the peer's capabilities                                   |
+//!
+//! The last two stand behind the record that the length speaks of.
 
+use crate::capabilities::CapabilitySet;
 use crate::kinds::KindSet;
 use crate::lists::{ApplicationSet, ControlSet};
 use crate::session::{Peer, Session, Settled, State};
 use crate::Refusal;
 
-pub(crate) const LENGTH: usize = 22;
+pub(crate) const LENGTH: usize = 24;
 
 pub(crate) const REST: u16 = 20;
 pub(crate) const KIND: u16 = 1;
@@ -72,6 +77,7 @@ fn decoded(record: &[u8]) -> Option<Session> {
         uses_tac: flag(USES_TAC),
         drops: flag(DROPS),
         protected: KindSet::from_bits(pair(10).into())?,
+        ours: CapabilitySet::from_bits(octets[22].into())?,
     };
     let enabled = ApplicationSet::from_bits(pair(6).into())?;
     let listed = ApplicationSet::from_bits(pair(8).into())?;
@@ -89,6 +95,7 @@ fn decoded(record: &[u8]) -> Option<Session> {
             listed: flag(IN_FORCE).then_some(listed),
             disabled: ControlSet::from_bits(octets[12].into())?,
             dynamic: flag(DYNAMIC),
+            theirs: CapabilitySet::from_bits(octets[23].into())?,
         },
         hello: flag(HELLO).then_some(number(14)),
         next_number: number(18),
@@ -122,6 +129,9 @@ fn is_sound(session: &Session) -> bool {
             return false;
         }
         if peer.dynamic {
+            return false;
+        }
+        if !peer.theirs.is_empty() {
             return false;
         }
     }
@@ -172,5 +182,7 @@ pub(crate) fn encode(session: &Session) -> [u8; LENGTH] {
     octets[12] = peer.disabled.bits();
     octets[14..18].copy_from_slice(&hello.unwrap_or(0).to_le_bytes());
     octets[18..22].copy_from_slice(&next_number.to_le_bytes());
+    octets[22] = settings.ours.bits();
+    octets[23] = peer.theirs.bits();
     octets
 }

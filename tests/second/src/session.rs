@@ -1,5 +1,6 @@
 //! A targeted session and what can be asked of it.
 
+use crate::capabilities::{Capability, CapabilitySet};
 use crate::kinds::{Application, Kind, KindSet};
 use crate::lists::{ApplicationSet, ControlSet};
 
@@ -26,6 +27,10 @@ pub(crate) enum Why {
     NotEnabled = 3,
     /// Some is enabled here, and the peer lists none of these.
     NotListed = 4,
+    /// The capability that it needs is not ours.
+    NotOurs = 5,
+    /// It is ours, and not the peer's.
+    NotTheirs = 6,
 }
 
 /// What is settled once and for all at creation.
@@ -36,6 +41,8 @@ pub(crate) struct Settled {
     pub uses_tac: bool,
     pub drops: bool,
     pub protected: KindSet,
+    /// The capabilities that we hold.
+    pub ours: CapabilitySet,
 }
 
 /// What the peer told us since the session opened.
@@ -45,6 +52,8 @@ pub(crate) struct Peer {
     pub listed: Option<ApplicationSet>,
     pub disabled: ControlSet,
     pub dynamic: bool,
+    /// The capabilities that the peer holds.
+    pub theirs: CapabilitySet,
 }
 
 #[derive(Clone, Copy, Debug, PartialEq, Eq)]
@@ -79,6 +88,12 @@ impl Session {
             None => KindSet::ALL,
         };
         open.without(self.peer.disabled.closes())
+            .without(self.held().lacks())
+    }
+
+    /// The capabilities held by both ends.
+    fn held(&self) -> CapabilitySet {
+        self.settings.ours.common(self.peer.theirs)
     }
 
     /// Why labels of this kind may not be sent now: application by application,
@@ -90,23 +105,30 @@ impl Session {
         if self.peer.disabled.disables(kind) {
             return Why::DisabledByPeer;
         }
-        let Some(listed) = self.peer.listed else {
+        if let Some(listed) = self.peer.listed {
+            let protected = self.settings.protected;
+            let mut enabled = Application::ALL
+                .into_iter()
+                .filter(|&application| self.enabled.contains(application))
+                .filter(|application| application.opens(protected).contains(kind))
+                .peekable();
+            if enabled.peek().is_none() {
+                return Why::NotEnabled;
+            }
+            if !enabled.any(|application| listed.contains(application)) {
+                return Why::NotListed;
+            }
+        }
+        let Some(needed) = Capability::needed_by(kind) else {
             return Why::Permitted;
         };
-        let opens =
-            |application: &Application| application.opens(self.settings.protected).contains(kind);
-        let mut enabled = Application::ALL
-            .into_iter()
-            .filter(|&one| self.enabled.contains(one))
-            .filter(opens)
-            .peekable();
-        if enabled.peek().is_none() {
-            return Why::NotEnabled;
+        if !self.settings.ours.contains(needed) {
+            return Why::NotOurs;
         }
-        if enabled.any(|application| listed.contains(application)) {
-            return Why::Permitted;
+        if !self.peer.theirs.contains(needed) {
+            return Why::NotTheirs;
         }
-        Why::NotListed
+        Why::Permitted
     }
 
     /// Do the two lists leave anything to talk about? Without negotiation in

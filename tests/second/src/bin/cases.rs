@@ -44,6 +44,8 @@ impl<'a> Input<'a> {
             enabled: self.pair()?,
             listed: self.pair()?,
             protects: self.pair()?,
+            ours: self.octet()?,
+            theirs: self.octet()?,
             hello: self.number()?,
             next: self.number()?,
         })
@@ -61,6 +63,7 @@ impl<'a> Input<'a> {
             enabled: self.number()?,
             first_number: self.number()?,
             wishes: self.number()?,
+            capabilities: self.number()?,
         })
     }
 
@@ -108,6 +111,8 @@ impl Line {
         self.number(session.enabled);
         self.number(session.listed);
         self.number(session.protects);
+        self.number(session.ours);
+        self.number(session.theirs);
         self.number(session.hello);
         self.number(session.next);
     }
@@ -174,6 +179,8 @@ fn call(input: &mut Input, record: &mut [u8; RECORD_LENGTH]) -> Option<Line> {
             let reading = second::read(input.area()?);
             line.number(reading.refusal);
             line.number(reading.dynamic);
+            line.number(reading.capabilities);
+            line.number(reading.holding);
             line.part(reading.tac);
             line.part(reading.sac);
         }
@@ -264,8 +271,8 @@ mod tests {
     fn a_call_cut_short_ends_the_run() {
         assert_eq!(lines(&[11, 6, 1, 0, 0]), "b 0\n");
         assert_eq!(lines(&[12, 1, 0]), "");
-        assert_eq!(lines(&[[1].as_slice(), &[0; 16]].concat()), "");
-        assert_eq!(lines(&[[17].as_slice(), &[0; 17]].concat()), "");
+        assert_eq!(lines(&[[1].as_slice(), &[0; 20]].concat()), "");
+        assert_eq!(lines(&[[17].as_slice(), &[0; 19]].concat()), "");
         assert_eq!(lines(&[[18].as_slice(), &[0; 9]].concat()), "");
         assert_eq!(lines(&[19, 0, 0, 0, 0]), "");
         assert_eq!(lines(&[[20].as_slice(), &[0; 7]].concat()), "");

@@ -7,14 +7,14 @@
 //!
 //! # The calls
 //!
-//! One record lives through the whole input, all its 22 octets 0 at first. A
+//! One record lives through the whole input, all its 24 octets 0 at first. A
 //! call is one octet with its number, and then its arguments; in parentheses
 //! the octets of each, numbers least significant octet first.
 //!
 //! |  n | call            | arguments                                          |
 //! |----|-----------------|----------------------------------------------------|
 //! |  1 | create          | roles (1), protected kinds (4), enabled (4), first |
-//! |    |                 | message number (4), wishes (4)                     |
+//! |    |                 | message number (4), wishes (4), capabilities (4)   |
 //! |  2 | initialization  | length of the area (2), the area                   |
 //! |  3 | capability      | length of the area (2), the area                   |
 //! |  4 | local change    | TA-Id (4), on or 0 (1), length of the room (1)     |
@@ -26,7 +26,7 @@
 //! | 10 | retry interval  |                                                    |
 //! | 11 | sound           |                                                    |
 //! | 12 | read            | length of the area (2), the area                   |
-//! | 13 | set the record  | what takes its place (22), sound or not            |
+//! | 13 | set the record  | what takes its place (24), sound or not            |
 //! | 14 | no limits       |                                                    |
 //! | 15 | set a limit     | limits (13), TA-Id (4), limit (4)                  |
 //! | 16 | load            |                                                    |
@@ -40,13 +40,13 @@
 //! Roles from bit 0: initiating, active, uses TAC, drops; the other bits are not
 //! read. Limits are an octet for each application, from TA-Id 1 on; totals are one
 //! for each kind, from kind 0 on. A session is its fields: state (1), flags (1),
-//! disabled (1), enabled (2), listed (2), protected kinds (2), Hello number (4), next
-//! message number (4). A room has as many octets as asked for, but never more than
-//! 40, and each is 0xEE before the call. `load` reads the record, and `store` leaves
-//! it alone. The wishes and the totals of a call are those that it is given: none are
-//! kept from one call to the next. The run ends at the end of the input, at a call
-//! whose arguments are cut short, and at any other number. What lies beyond 32,768
-//! octets is not read.
+//! disabled (1), enabled (2), listed (2), protected kinds (2), our capabilities (1), the
+//! peer's (1), Hello number (4), next message number (4). A room has as many octets as
+//! asked for, but never more than 40, and each is 0xEE before the call. `load` reads the
+//! record, and `store` leaves it alone. The wishes and the totals of a call are those
+//! that it is given: none are kept from one call to the next. The run ends at the end
+//! of the input, at a call whose arguments are cut short, and at any other number. What
+//! lies beyond 32,768 octets is not read.
 //!
 //! # The lines
 //!
@@ -63,11 +63,12 @@
 //! |   9 | refusal, kinds                                                     |
 //! |  10 | refusal, interval                                                  |
 //! |  11 | 0 or 1                                                             |
-//! |  12 | refusal, dynamic, start and length of TAC, start and length of SAC |
+//! |  12 | refusal, dynamic, capabilities, holding, start and length of TAC,  |
+//! |     | start and length of SAC                                            |
 //! |  13 | record                                                             |
 //! |  14 | limits                                                             |
 //! |  15 | refusal, limits                                                    |
-//! |  16 | refusal, the eight fields of the session                           |
+//! |  16 | refusal, the ten fields of the session                             |
 //! |  17 | refusal, room                                                      |
 //! |  18 | refusal, outcome, lost, gained, written, wishes, record, room      |
 //! |  19 | refusal, written, room                                             |
@@ -90,6 +91,9 @@ const WISH_ROOM: u8 = 14;
 
 /// TAC with 4 and 7, a dynamic peer.
 const BOTH_DYNAMIC: &str = "850F0009 80 00048000 00078000 85060001 80";
+
+/// All three capabilities.
+const ALL_HELD: &str = "85080001 80 85090001 80 89020001 80";
 
 /// Octets that are read.
 const MOST: usize = 32_768;
@@ -132,15 +136,20 @@ impl Calls {
     }
 
     fn create(&mut self, roles: u8, protected: u32, enabled: u32, first: u32) {
-        self.create_wishing(roles, protected, enabled, first, 0);
+        self.create_with(roles, [protected, enabled, first, 0, 0]);
     }
 
-    fn create_wishing(&mut self, roles: u8, protected: u32, enabled: u32, first: u32, wishes: u32) {
+    /// With protected kinds, enabled applications, message number, wishes and capabilities.
+    fn create_with(&mut self, roles: u8, settings: [u32; 5]) {
         self.octets(&[1, roles]);
-        self.number(protected);
-        self.number(enabled);
-        self.number(first);
-        self.number(wishes);
+        for number in settings {
+            self.number(number);
+        }
+    }
+
+    /// A fresh session that holds these capabilities, with applications enabled.
+    fn holding(&mut self, capabilities: u32, ta_ids: &[u32]) {
+        self.create_with(HOLDS, [0, applications(ta_ids), 0, 0, capabilities]);
     }
 
     fn initialization(&mut self, area: &str) {
@@ -194,9 +203,13 @@ impl Calls {
         self.area(&hex(area));
     }
 
+    /// Without its last two octets nothing is held at either end.
     fn record(&mut self, record: &str) {
-        let record = hex(record);
-        assert!(record.len() == 22, "a record of {} octets", record.len());
+        let mut record = hex(record);
+        if record.len() == 22 {
+            record.extend([0, 0]);
+        }
+        assert!(record.len() == 24, "a record of {} octets", record.len());
         self.octets(&[13]);
         self.octets(&record);
     }
@@ -218,7 +231,7 @@ impl Calls {
 
     fn store(&mut self, session: &str, room: u8) {
         let session = hex(session);
-        assert!(session.len() == 17, "fields of {} octets", session.len());
+        assert!(session.len() == 19, "fields of {} octets", session.len());
         self.octets(&[17]);
         self.octets(&session);
         self.octets(&[room]);
@@ -397,8 +410,15 @@ fn readings(calls: &mut Calls) {
         "850F0001 80",
         "86000000 850D0002 80 90",
         "85060001 80",
-        // the three of ours between others, U and F of all sorts
+        // ours between others, U and F of all sorts; then the capabilities, S of both sorts
         "05000000 05FF0001 AA C6000000 86000000 450D0003 00 90 A0 050F0001 00 C5060001 7F",
+        "05080001 80 86000000 45090001 7F 09020001 FF",
+        "89020001 00 85080001 01",
+        "85090001 80",
+        // their neighbours are passed over, or not
+        "05070000 050A0000 89010000 89030000",
+        "09010000",
+        "09030000",
         // 2: octets remain, or the value runs past the area
         "85",
         "85060001 80 8506",
@@ -412,6 +432,12 @@ fn readings(calls: &mut Calls) {
         "850D0001 80",
         "85060000",
         "85060002 80 80",
+        "85080000",
+        "85080002 80 80",
+        "85090000",
+        "85090002 80 80",
+        "89020000",
+        "09020002 80 80",
         // 4
         "04FF0000",
         "46000000",
@@ -421,6 +447,9 @@ fn readings(calls: &mut Calls) {
         "850F0001 80 850F0000",
         "850D0002 80 90 850D0001 80",
         "85060001 80 85060000",
+        "85080001 80 85080001 80",
+        "85090001 00 85090000",
+        "89020001 80 09020002 80 80",
         // 3, 5 and 4 from the left
         "850F0000 850F0001 80 06000000",
     ] {
@@ -497,6 +526,14 @@ fn records(calls: &mut Calls) {
         "1400 0100 03 0D 4800 0000 0000 00 00 00000000 01000000",
         "1400 0100 03 0E 4800 0000 0000 00 00 00000000 01000000",
         "1400 0100 03 4F 4800 0000 0000 00 00 00000000 01000000",
+        // capabilities: spare bits of ours and of the peer's, the peer's unless Open
+        "1400 0100 00 07 4800 0000 0000 00 00 00000000 01000000 08 00",
+        "1400 0100 01 07 4800 0000 0000 00 00 00000000 01000000 80 00",
+        "1400 0100 01 07 4800 0000 0000 00 00 00000000 01000000 00 08",
+        "1400 0100 01 07 4800 0000 0000 00 00 00000000 01000000 07 80",
+        "1400 0100 00 07 4800 0000 0000 00 00 00000000 01000000 00 01",
+        "1400 0100 02 07 4800 0000 0000 00 00 00000000 01000000 02 02",
+        "1400 0100 03 0B 4800 0000 0000 00 00 00000000 01000000 07 04",
     ] {
         calls.record(record);
         calls.sound();
@@ -518,6 +555,13 @@ fn records(calls: &mut Calls) {
         "1400 0100 01 37 FF1F FF1F FF03 0F 00 00000000 01000000",
         "1400 0100 02 4E 4800 0000 0000 00 00 FFFFFFFF 01000000",
         "1400 0100 03 0B 4800 0000 0000 00 00 00000000 01000000",
+        // capabilities of ours in every state, the peer's in Open
+        "1400 0100 00 07 4800 0000 0000 00 00 00000000 01000000 07 00",
+        "1400 0100 01 07 4800 0000 0000 00 00 00000000 01000000 07 07",
+        "1400 0100 01 07 4800 0000 0000 00 00 00000000 01000000 03 06",
+        "1400 0100 01 17 0400 0404 0000 00 00 00000000 01000000 05 05",
+        "1400 0100 02 07 4800 0000 0000 00 00 00000000 01000000 05 00",
+        "1400 0100 03 0B 4800 0000 0000 00 00 00000000 01000000 02 00",
     ] {
         calls.record(record);
         calls.sound();
@@ -553,39 +597,43 @@ fn by_fields(calls: &mut Calls) {
     for (record, session) in [
         (
             "1400 0100 00 47 4800 0000 FF03 00 00 04030201 FFFFFFFF",
-            "00 47 00 4800 0000 FF03 04030201 FFFFFFFF",
+            "00 47 00 4800 0000 FF03 00 00 04030201 FFFFFFFF",
         ),
         (
-            "1400 0100 01 37 FF1F FF1F FF03 0F 00 00000000 08070605",
-            "01 37 0F FF1F FF1F FF03 00000000 08070605",
+            "1400 0100 01 37 FF1F FF1F FF03 0F 00 00000000 08070605 03 06",
+            "01 37 0F FF1F FF1F FF03 03 06 00000000 08070605",
         ),
         (
-            "1400 0100 02 4E 4800 0000 0000 00 00 FFFFFFFF 01000000",
-            "02 4E 00 4800 0000 0000 FFFFFFFF 01000000",
+            "1400 0100 02 4E 4800 0000 0000 00 00 FFFFFFFF 01000000 07 00",
+            "02 4E 00 4800 0000 0000 07 00 FFFFFFFF 01000000",
         ),
         (
             "1400 0100 03 0B 4800 0000 0000 00 00 00000000 01000000",
-            "03 0B 00 4800 0000 0000 00000000 01000000",
+            "03 0B 00 4800 0000 0000 00 00 00000000 01000000",
         ),
     ] {
         calls.record(record);
         calls.load();
-        calls.store(session, 22);
+        calls.store(session, 24);
     }
-    // a room that is not of 22 octets
-    for room in [0, 21, 23, 40, 0xFF] {
-        calls.store("00 07 00 4800 0000 0000 00000000 01000000", room);
+    // a room that is not of 24 octets
+    for room in [0, 22, 23, 25, 40, 0xFF] {
+        calls.store("00 07 00 4800 0000 0000 00 00 00000000 01000000", room);
     }
-    // fields that are not sound: no session, a spare flag, Held and passive
+    // fields that are not sound: no session, a spare flag, Held and passive, a spare
+    // capability of ours and of the peer, one of the peer's in Ready
     for session in [
-        "FF 00 00 0000 0000 0000 00000000 00000000",
-        "00 87 00 4800 0000 0000 00000000 01000000",
-        "02 05 00 4800 0000 0000 00000000 01000000",
+        "FF 00 00 0000 0000 0000 00 00 00000000 00000000",
+        "00 87 00 4800 0000 0000 00 00 00000000 01000000",
+        "02 05 00 4800 0000 0000 00 00 00000000 01000000",
+        "01 07 00 4800 0000 0000 08 00 00000000 01000000",
+        "01 07 00 4800 0000 0000 00 08 00000000 01000000",
+        "00 07 00 4800 0000 0000 01 01 00000000 01000000",
     ] {
-        calls.store(session, 22);
+        calls.store(session, 24);
     }
     // neither sound nor a room of its size
-    calls.store("FF 00 00 0000 0000 0000 00000000 00000000", 21);
+    calls.store("FF 00 00 0000 0000 0000 00 00 00000000 00000000", 23);
     // records that are not: by a field, by the kind, by the zero octet
     for record in [
         "1400 0100 00 87 4800 0000 0000 00 00 00000000 01000000",
@@ -600,7 +648,7 @@ fn by_fields(calls: &mut Calls) {
 /// Wishes given at creation: the record is the same with any that are sound.
 fn wishes_at_creation(calls: &mut Calls) {
     for wishes in [0, 1, 8, 15, 16, 0x100, 0x1_0000, 0x8000_0000, 0xFFFF_FFFF] {
-        calls.create_wishing(HOLDS, 0x3FF, applications(&[4, 7]), 5, wishes);
+        calls.create_with(HOLDS, [0x3FF, applications(&[4, 7]), 5, wishes, 0]);
     }
 }
 
@@ -725,6 +773,74 @@ fn bindings_wanted(calls: &mut Calls) {
     }
 }
 
+/// Which kinds each capability is needed for, by whom it must be held, and how the peer's
+/// come and go.
+fn capabilities(calls: &mut Calls) {
+    // the first and the eighth example with all three held by both ends, and by one
+    for (ours, theirs) in [(7, ALL_HELD), (7, ""), (0, ALL_HELD)] {
+        calls.holding(ours, &[]);
+        calls.initialization(theirs);
+        calls.permitted_kinds();
+        calls.holding(ours, &[7]);
+        calls.initialization(&format!("{theirs} 850F0009 80 00048000 00078000"));
+        calls.capability("850D0002 80 C0");
+        calls.capability("850F0001 00");
+    }
+    // each of ours against all of the peer's, each of the peer's against all of ours
+    for (ours, tlv) in [(1, "85080001"), (2, "85090001"), (4, "89020001")] {
+        calls.holding(ours, &[]);
+        calls.initialization(ALL_HELD);
+        calls.holding(7, &[3]);
+        // S is not read in an Initialization
+        calls.initialization(&format!("{tlv} 00 85060001 80 850F0005 80 00038000"));
+        calls.permitted_kinds();
+        // S = 0 is withdrawn, absent stays, S = 1 holds
+        calls.capability(&format!("{tlv} 7F"));
+        calls.capability(ALL_HELD);
+        calls.capability("");
+        calls.capability(&format!("{tlv} 00"));
+        calls.capability(&format!("{tlv} FF"));
+        // none is left where Open is left
+        calls.closed();
+        calls.initialization("");
+        calls.capability(ALL_HELD);
+        calls.mismatch();
+    }
+    // kinds of Session Protection need them too; so do those of a session without TAC
+    for roles in [HOLDS, INITIATING | ACTIVE] {
+        calls.create_with(roles, [0x3FF, applications(&[8]), 0, 0, 5]);
+        calls.initialization(&format!("850F0005 80 00088000 {ALL_HELD}"));
+        for kind in 0..10 {
+            calls.permitted(kind);
+        }
+        calls.capability("85090001 80 89020001 00");
+    }
+    // a mismatch, and a refusal, leave none and the ones before
+    calls.holding(7, &[4]);
+    calls.initialization(&format!("{ALL_HELD} 850F0001 80"));
+    calls.holding(7, &[4]);
+    calls.initialization(&format!("{ALL_HELD} 85"));
+    calls.initialization(ALL_HELD);
+    calls.capability("85080001 00 85090000");
+    // sets of ours at creation
+    for ours in [
+        1,
+        2,
+        4,
+        7,
+        8,
+        15,
+        0x80,
+        0x100,
+        0x107,
+        0x1_0000,
+        0x8000_0000,
+        0xFFFF_FFFF,
+    ] {
+        calls.holding(ours, &[4]);
+    }
+}
+
 /// Totals are answered as they stand, whatever they are.
 fn totals(calls: &mut Calls) {
     let edges = [0, 1, 63, 64, 65, 66, 127, 128, 200, 255];
@@ -768,6 +884,7 @@ fn all() -> Vec<u8> {
     wishes_in_initialization(&mut calls);
     bindings_wanted(&mut calls);
     totals(&mut calls);
+    capabilities(&mut calls);
     assert!(calls.0.len() <= MOST, "{} octets", calls.0.len());
     calls.0
 }

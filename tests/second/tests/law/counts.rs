@@ -24,6 +24,7 @@ fn fresh(numbers: &mut Numbers) -> Fields {
         protected: numbers.below(0x400) as u32,
         enabled: (numbers.next() & numbers.next() & 0x1FFF) as u32,
         number: numbers.next() as u32,
+        capabilities: numbers.below(8) as u32,
     }
     .make()
     .loaded()

@@ -176,7 +176,7 @@ fn negotiation_not_in_force_is_not_limited_and_counts_for_none() {
         let mut row = [made.make().loaded(); 2];
         for at in [0, 1] {
             let answer = initialized(&mut row, at, none, &area);
-            assert_eq!(answer, done(0, ALL_KINDS));
+            assert_eq!(answer, done(0, NEEDING_NONE));
         }
         assert_eq!(count(&row, 4), 0);
     }
@@ -237,7 +237,7 @@ fn a_session_that_closes_makes_place_for_another() {
 #[test]
 fn what_uses_an_application() {
     let uses = |text: &str| {
-        let record = Box22(hex(text).try_into().unwrap());
+        let record = holding_none(text);
         (1..=13)
             .filter(|&ta_id| count(&[record.loaded()], ta_id) == 1)
             .collect::<Vec<u32>>()

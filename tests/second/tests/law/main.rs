@@ -1,5 +1,6 @@
 //! The rules, through the public functions only.
 
+mod capabilities;
 mod counts;
 mod limits;
 mod numbers;
@@ -41,14 +42,29 @@ pub fn kinds(kinds: &[u16]) -> u16 {
 
 pub const ALL_KINDS: u16 = 0x3FF;
 
+/// The kinds that need no capability: 0, 1, 7, 8 and 9.
+pub const NEEDING_NONE: u16 = 0x383;
+
+/// All three capabilities, and the TLVs of a peer that holds them.
+pub const ALL_CAPABILITIES: u32 = 7;
+pub const ALL_HELD: &str = "85080001 80 85090001 80 89020001 80";
+
 pub const READY: u8 = 0;
 pub const OPEN: u8 = 1;
 pub const HELD: u8 = 2;
 pub const GONE: u8 = 3;
 
+/// A record of which only the first 22 octets are said: nothing is held at either end.
+pub fn holding_none(text: &str) -> Box24 {
+    let mut octets = hex(text);
+    assert_eq!(octets.len(), RECORD_LENGTH - 2);
+    octets.extend([0, 0]);
+    Box24(octets.try_into().unwrap())
+}
+
 /// A session in its record, with shorter names for what the tests do to it.
 #[derive(Clone, Copy, Debug, PartialEq, Eq)]
-pub struct Box22(pub [u8; RECORD_LENGTH]);
+pub struct Box24(pub [u8; RECORD_LENGTH]);
 
 /// What creation settles.
 #[derive(Clone, Copy)]
@@ -60,6 +76,8 @@ pub struct Made {
     pub protected: u32,
     pub enabled: u32,
     pub number: u32,
+    /// Ours: P2MP bit 0, MP2MP bit 1, HSMP bit 2.
+    pub capabilities: u32,
 }
 
 impl Default for Made {
@@ -72,6 +90,7 @@ impl Default for Made {
             protected: 0,
             enabled: 0,
             number: 0,
+            capabilities: 0,
         }
     }
 }
@@ -84,12 +103,20 @@ impl Made {
         }
     }
 
-    pub fn make(self) -> Box22 {
+    /// The same with these capabilities of ours.
+    pub fn holding(self, capabilities: u32) -> Made {
+        Made {
+            capabilities,
+            ..self
+        }
+    }
+
+    pub fn make(self) -> Box24 {
         self.wishing(0)
     }
 
     /// The same with wishes, which leave no trace in the record.
-    pub fn wishing(self, wishes: u32) -> Box22 {
+    pub fn wishing(self, wishes: u32) -> Box24 {
         let mut record = [0xA5; RECORD_LENGTH];
         let settings = Settings {
             initiating: self.initiating,
@@ -100,13 +127,14 @@ impl Made {
             enabled: self.enabled,
             first_number: self.number,
             wishes,
+            capabilities: self.capabilities,
         };
         assert_eq!(create(&mut record, settings), 0);
-        Box22(record)
+        Box24(record)
     }
 }
 
-impl Box22 {
+impl Box24 {
     pub fn init(&mut self, area: &str) -> Answer {
         initialization(&mut self.0, &hex(area))
     }
@@ -160,6 +188,16 @@ impl Box22 {
         self.0[12]
     }
 
+    /// Our capabilities.
+    pub fn ours(&self) -> u8 {
+        self.0[22]
+    }
+
+    /// The peer's capabilities.
+    pub fn theirs(&self) -> u8 {
+        self.0[23]
+    }
+
     pub fn heard(&self) -> Option<u32> {
         let number = u32::from_le_bytes(self.0[14..18].try_into().unwrap());
         self.flag(6).then_some(number)
@@ -196,10 +234,10 @@ impl Box22 {
 }
 
 /// The session of a row in a record of its own.
-pub fn stored(session: Fields) -> Box22 {
+pub fn stored(session: Fields) -> Box24 {
     let mut record = [0x5C; RECORD_LENGTH];
     assert_eq!(store(session, &mut record), 0);
-    Box22(record)
+    Box24(record)
 }
 
 /// How many sessions of a row permit each kind, by a walk over them.

@@ -39,6 +39,11 @@ impl Numbers {
         if self.chance(8) {
             area.extend([0x85, 0x06, 0, 1, 0x80]);
         }
+        for (high, low) in [(0x85, 0x08), (0x85, 0x09), (0x89, 0x02)] {
+            if self.chance(5) {
+                area.extend([high, low, 0, 1, self.next() as u8]);
+            }
+        }
         area
     }
 }

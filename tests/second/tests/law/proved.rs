@@ -1,17 +1,25 @@
-//! The twelve examples that the scope of work gives with their results.
+//! The twelve examples that the scope of work gives with their results. The first and the
+//! eighth are told again for where capabilities are held: nothing of them is held by
+//! either end, or all three by both.
 
 use crate::*;
 
 /// The session after the fourth example.
-fn after_4() -> Box22 {
+fn after_4() -> Box24 {
     let mut session = Made::enabling(&[7]).make();
     session.init("850F0009 80 00048000 00078000");
     session
 }
 
-/// The session after the fifth example.
-fn after_5() -> Box22 {
-    let mut session = after_4();
+/// The session after the fifth example, all three capabilities held by both ends or none.
+fn after_5(all_held: bool) -> Box24 {
+    let (ours, theirs) = if all_held {
+        (ALL_CAPABILITIES, ALL_HELD)
+    } else {
+        (0, "")
+    };
+    let mut session = Made::enabling(&[7]).holding(ours).make();
+    session.init(&format!("850F0009 80 00048000 00078000 {theirs}"));
     session.cap("850D0002 80 C0");
     session
 }
@@ -19,9 +27,17 @@ fn after_5() -> Box22 {
 #[test]
 fn example_1() {
     let mut session = Made::default().make();
-    assert_eq!(session.init(""), done(0, ALL_KINDS));
+    assert_eq!(session.init(""), done(0, kinds(&[0, 1, 7, 8, 9])));
     assert_eq!(session.state(), OPEN);
-    assert_eq!(session.permitted(), ALL_KINDS);
+    assert_eq!(session.permitted(), 0x383);
+}
+
+#[test]
+fn example_1_with_all_three_held() {
+    let mut session = Made::default().holding(ALL_CAPABILITIES).make();
+    assert_eq!(session.init(ALL_HELD), done(0, ALL_KINDS));
+    assert_eq!(session.state(), OPEN);
+    assert_eq!(session.permitted(), 0x3FF);
 }
 
 #[test]
@@ -58,7 +74,7 @@ fn example_5() {
 
 #[test]
 fn example_6() {
-    let mut session = after_5();
+    let mut session = after_5(false);
     assert_eq!(session.cap("850D0002 80 40"), done(0, kinds(&[8])));
 }
 
@@ -73,7 +89,13 @@ fn example_7() {
 
 #[test]
 fn example_8() {
-    let mut session = after_5();
+    let mut session = after_5(false);
+    assert_eq!(session.cap("850F0001 00"), done(0, kinds(&[0, 1, 7, 9])));
+}
+
+#[test]
+fn example_8_with_all_three_held() {
+    let mut session = after_5(true);
     assert_eq!(
         session.cap("850F0001 00"),
         done(0, kinds(&[0, 1, 2, 3, 4, 5, 6, 7, 9]))
@@ -97,7 +119,7 @@ fn example_10() {
     let mut session = fresh;
     assert_eq!(session.init("06000000"), refused(4));
     assert_eq!(session, fresh);
-    assert_eq!(session.init("86000000"), done(0, ALL_KINDS));
+    assert_eq!(session.init("86000000"), done(0, NEEDING_NONE));
     assert_eq!(read(&hex("06000000")).refusal, 4);
     assert_eq!(read(&hex("86000000")), Reading::default());
 }

@@ -132,6 +132,8 @@ fn our_types_with_any_u_and_f() {
             Reading {
                 refusal: 0,
                 dynamic: 1,
+                capabilities: 0,
+                holding: 0,
                 tac: Part {
                     start: 4,
                     length: 5
@@ -182,32 +184,33 @@ fn six_out_of_range() {
     }
     for bit in 0..32 {
         let set = 1 << bit;
-        let mut record = [7; 22];
+        let mut record = [7; RECORD_LENGTH];
         let by_kinds = Settings {
             protected_kinds: set,
             ..Settings::default()
         };
         let refusal = create(&mut record, by_kinds);
         assert_eq!(refusal, if bit < 10 { 0 } else { 6 });
-        let mut record = [7; 22];
+        let mut record = [7; RECORD_LENGTH];
         let by_applications = Settings {
             enabled: set,
             ..Settings::default()
         };
         let refusal = create(&mut record, by_applications);
         assert_eq!(refusal, if bit < 13 { 0 } else { 6 });
-        assert_eq!(record == [7; 22], bit >= 13);
+        assert_eq!(record == [7; RECORD_LENGTH], bit >= 13);
     }
 }
 
 #[test]
 fn six_after_ten() {
-    for length in (0..64).filter(|&length| length != 22) {
+    for length in (0..64).filter(|&length| length != RECORD_LENGTH) {
         let mut room = vec![0x77; length];
         let settings = Settings {
             protected_kinds: u32::MAX,
             enabled: u32::MAX,
             wishes: u32::MAX,
+            capabilities: u32::MAX,
             ..Settings::default()
         };
         assert_eq!(create(&mut room, settings), 10);
@@ -227,7 +230,7 @@ fn seven_before_one() {
 }
 
 /// An open session, in force over 4 alone.
-fn open(dynamic: bool) -> Box22 {
+fn open(dynamic: bool) -> Box24 {
     let mut session = Made::enabling(&[4]).make();
     session.init(if dynamic {
         "850F0005 80 00048000 85060001 80"

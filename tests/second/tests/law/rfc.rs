@@ -69,8 +69,9 @@ fn three_updates_of_the_outbound_policy() {
             uses_tac,
             ..Made::default()
         }
+        .holding(ALL_CAPABILITIES)
         .make();
-        session.init("850D0003 80 A0 C0");
+        session.init(&format!("850D0003 80 A0 C0 {ALL_HELD}"));
         assert_eq!(session.permitted() & controlled, kinds(&[0, 7]));
         assert_eq!(
             session.cap("850D0003 80 20 B0"),

@@ -6,14 +6,14 @@ use crate::*;
 const EVENTS: std::ops::Range<u32> = 0..6;
 
 /// A session in every state, with every field that the state can have.
-fn one_of_each() -> Vec<Box22> {
+fn one_of_each() -> Vec<Box24> {
     [
-        "1400 0100 00 4E 0110 0000 0203 00 00 0A0B0C0D 01020304",
-        "1400 0100 01 7C 0110 4010 0203 09 00 0A0B0C0D 01020304",
-        "1400 0100 02 46 0110 0000 0203 00 00 0A0B0C0D 01020304",
-        "1400 0100 03 0F 0110 0000 0203 00 00 00000000 01020304",
+        "1400 0100 00 4E 0110 0000 0203 00 00 0A0B0C0D 01020304 05 00",
+        "1400 0100 01 7C 0110 4010 0203 09 00 0A0B0C0D 01020304 03 06",
+        "1400 0100 02 46 0110 0000 0203 00 00 0A0B0C0D 01020304 02 00",
+        "1400 0100 03 0F 0110 0000 0203 00 00 00000000 01020304 07 00",
     ]
-    .map(|text| Box22(hex(text).try_into().unwrap()))
+    .map(|text| Box24(hex(text).try_into().unwrap()))
     .to_vec()
 }
 
@@ -54,6 +54,8 @@ fn every_field_is_loaded_by_its_name() {
                 enabled: 0x1001,
                 listed: 0x1040,
                 protects: 0x0302,
+                ours: 0x03,
+                theirs: 0x06,
                 hello: 0x0D0C_0B0A,
                 next: 0x0403_0201,
             },
@@ -194,7 +196,7 @@ fn seven_for_an_event_that_is_none() {
 }
 
 /// The same event of a record.
-fn to_a_record(record: &mut Box22, event: Event, area: &[u8], room: &mut [u8]) -> Answer {
+fn to_a_record(record: &mut Box24, event: Event, area: &[u8], room: &mut [u8]) -> Answer {
     match event.which {
         0 => initialization(&mut record.0, area),
         1 => capability(&mut record.0, area),
@@ -209,7 +211,7 @@ fn to_a_record(record: &mut Box22, event: Event, area: &[u8], room: &mut [u8]) -
 fn an_event_does_in_a_row_what_it_does_to_a_record() {
     let areas = ["", "850F0001 80", "850F0005 80 000D8000 85060001 80", "85"];
     let all = one_of_each();
-    let row: Vec<Fields> = all.iter().map(Box22::loaded).collect();
+    let row: Vec<Fields> = all.iter().map(Box24::loaded).collect();
     for (at, which, area, on) in every_case(&areas) {
         for (ta_id, length) in [(1, 17), (2, 17), (2, 16), (13, 20), (14, 20)] {
             let event = Event {

@@ -29,15 +29,15 @@ fn after_mismatch(made: Made) -> u8 {
     }
 }
 
-fn opened(made: Made) -> Box22 {
+fn opened(made: Made) -> Box24 {
     let mut session = made.make();
-    let answer = session.init(&format!("{DYNAMIC} {LISTS_4} 850D0002 80 90"));
+    let answer = session.init(&format!("{DYNAMIC} {LISTS_4} 850D0002 80 90 {ALL_HELD}"));
     assert_eq!(answer.outcome, 0);
     session
 }
 
 /// A session of this role in each state that the role can have.
-pub fn in_every_state(made: Made) -> Vec<Box22> {
+pub fn in_every_state(made: Made) -> Vec<Box24> {
     let mut sessions = vec![made.make(), opened(made)];
     let mut told = opened(made);
     mismatch(&mut told.0);
@@ -48,11 +48,12 @@ pub fn in_every_state(made: Made) -> Vec<Box22> {
 }
 
 /// Nothing of what the peer said is left.
-fn forgotten(session: &Box22) -> bool {
+fn forgotten(session: &Box24) -> bool {
     session.listed() == 0
         && session.disabled() == 0
         && !session.in_force()
         && !session.dynamic()
+        && session.theirs() == 0
         && session.permitted() == 0
 }
 
@@ -91,11 +92,15 @@ fn initialization_opens() {
         assert!(session.dynamic());
         assert_eq!(session.disabled(), 0b0011);
         // 4 opens kind 0 alone, and that is disabled.
-        let left = if made.uses_tac { 0 } else { 0x3FC };
+        let left = if made.uses_tac {
+            0
+        } else {
+            NEEDING_NONE & !kinds(&[0, 1])
+        };
         assert_eq!(answer, done(0, left));
 
         let mut session = made.make();
-        assert_eq!(session.init(""), done(0, ALL_KINDS));
+        assert_eq!(session.init(""), done(0, NEEDING_NONE));
         assert!(!session.in_force() && !session.dynamic());
     }
 }
@@ -117,7 +122,7 @@ fn initialization_that_finds_nothing_in_common() {
     // Not used, TAC is read for its form only.
     for made in roles().filter(|made| !made.uses_tac) {
         let mut session = made.make();
-        assert_eq!(session.init(LISTS_NONE), done(0, ALL_KINDS));
+        assert_eq!(session.init(LISTS_NONE), done(0, NEEDING_NONE));
         let mut session = made.make();
         assert_eq!(session.init("850F0002 8000"), refused(3));
     }
@@ -137,8 +142,10 @@ fn session_protection_opens_the_protected_kinds() {
         protected: 0x204,
         ..Made::enabling(&[8])
     }
+    .holding(ALL_CAPABILITIES)
     .make();
-    assert_eq!(session.init("850F0005 80 00080000"), done(0, 0x204));
+    let area = format!("850F0005 80 00080000 {ALL_HELD}");
+    assert_eq!(session.init(&area), done(0, 0x204));
 }
 
 #[test]
@@ -169,7 +176,7 @@ fn capability_withdraws_and_returns() {
     // The elements of a withdrawal count for nothing.
     assert_eq!(
         session.cap("850F0005 00 00078000"),
-        done(0, ALL_KINDS & !kinds(&[0]))
+        done(0, NEEDING_NONE & !kinds(&[0]))
     );
     assert!(!session.in_force());
     assert_eq!(session.listed(), 0);
@@ -177,7 +184,7 @@ fn capability_withdraws_and_returns() {
     // From an empty list, not from the one before.
     assert_eq!(
         session.cap("850F0005 80 00078000"),
-        done(ALL_KINDS & !kinds(&[0, 8]), 0)
+        done(NEEDING_NONE & !kinds(&[0, 8]), 0)
     );
     assert!(session.in_force());
     assert_eq!(u32::from(session.listed()), applications(&[7]));
@@ -198,7 +205,10 @@ fn capability_that_leaves_nothing_in_common() {
         // Negotiation comes into force with nothing to show for it.
         let mut session = made.make();
         session.init("");
-        assert_eq!(session.cap("850F0005 80 00040000"), mismatched(ALL_KINDS));
+        assert_eq!(
+            session.cap("850F0005 80 00040000"),
+            mismatched(NEEDING_NONE)
+        );
         assert_eq!(session.state(), after_mismatch(made));
     }
 }
@@ -373,7 +383,7 @@ fn closing() {
         assert!(forgotten(&session));
         assert_eq!(session.heard(), Some(2));
         // The next opening starts from nothing.
-        assert_eq!(session.init(""), done(0, ALL_KINDS));
+        assert_eq!(session.init(""), done(0, NEEDING_NONE));
     }
 }
 

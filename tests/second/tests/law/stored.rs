@@ -11,7 +11,7 @@ fn a_fresh_session_is_stored_so() {
     .make();
     assert_eq!(
         session.0.to_vec(),
-        hex("1400 0100 00 07 4800 0000 0000 00 00 00000000 01000000")
+        hex("1400 0100 00 07 4800 0000 0000 00 00 00000000 01000000 00 00")
     );
 }
 
@@ -23,14 +23,17 @@ fn every_field_has_its_place() {
         drops: true,
         protected: 0x302,
         number: 0x0403_0201,
+        capabilities: 3,
         ..Made::enabling(&[1, 13])
     }
     .make();
-    session.init("85060001 00 850F0009 00 000D0000 00070000 850D0003 00 90 C0");
+    session.init(
+        "85060001 00 850F0009 00 000D0000 00070000 850D0003 00 90 C0 89020001 00 85090001 00",
+    );
     hello(&mut session.0, 0x0D0C_0B0A);
     assert_eq!(
         session.0.to_vec(),
-        hex("1400 0100 01 7C 0110 4010 0203 09 00 0A0B0C0D 01020304")
+        hex("1400 0100 01 7C 0110 4010 0203 09 00 0A0B0C0D 01020304 03 06")
     );
     assert!(sound(&session.0));
 }
@@ -49,10 +52,10 @@ fn no_other_length_is_sound() {
 
 /// The record of `text` with each change made to it alone must not be sound.
 fn unsound(text: &str, changes: &[(usize, u8)]) {
-    let record = hex(text);
+    let record = holding_none(text).0;
     assert!(sound(&record), "{text}");
     for &(at, octet) in changes {
-        let mut other = record.clone();
+        let mut other = record;
         assert_ne!(other[at], octet);
         other[at] = octet;
         assert!(!sound(&other), "{text}, {at}: {octet:02X}");
@@ -83,6 +86,10 @@ fn header_and_spare_bits() {
     for bit in 4..8 {
         changes.push((12, 1 << bit));
     }
+    for bit in 3..8 {
+        changes.push((22, 1 << bit));
+        changes.push((23, 1 << bit));
+    }
     unsound(
         "1400 0100 01 37 4800 4000 0000 00 00 00000000 01000000",
         &changes,
@@ -101,13 +108,13 @@ fn force_needs_open_tac_and_a_common_application() {
         ],
     );
     // Listing 4 in place of 7 leaves something in common.
-    assert!(sound(&hex(
-        "1400 0100 01 17 4800 0800 0000 00 00 00000000 01000000"
-    )));
+    assert!(sound(
+        &holding_none("1400 0100 01 17 4800 0800 0000 00 00 00000000 01000000").0
+    ));
     // Listing neither does not.
-    assert!(!sound(&hex(
-        "1400 0100 01 17 4800 0000 0000 00 00 00000000 01000000"
-    )));
+    assert!(!sound(
+        &holding_none("1400 0100 01 17 4800 0000 0000 00 00 00000000 01000000").0
+    ));
 }
 
 #[test]
@@ -117,24 +124,32 @@ fn what_the_peer_said_needs_its_holder() {
         "1400 0100 01 07 4800 0000 0000 00 00 00000000 01000000",
         &[(8, 0x40), (8, 0x01), (9, 0x10)],
     );
-    // Ready with disabled kinds, a dynamic peer, a Hello number.
+    // Ready with disabled kinds, a dynamic peer, a Hello number, capabilities of the peer.
     unsound(
         "1400 0100 00 07 4800 0000 0000 00 00 00000000 01000000",
-        &[(12, 0x01), (12, 0x08), (5, 0x27), (14, 1), (17, 0x80)],
+        &[
+            (12, 0x01),
+            (12, 0x08),
+            (5, 0x27),
+            (14, 1),
+            (17, 0x80),
+            (23, 1),
+            (23, 4),
+        ],
     );
-    // Open may have both.
+    // Open may have them.
     assert!(sound(&hex(
-        "1400 0100 01 27 4800 0000 0000 0F 00 00000000 01000000"
+        "1400 0100 01 27 4800 0000 0000 0F 00 00000000 01000000 00 07"
     )));
-    // Held may have neither.
+    // Held may have none.
     unsound(
         "1400 0100 02 07 4800 0000 0000 00 00 00000000 01000000",
-        &[(12, 0x01), (5, 0x27), (14, 1)],
+        &[(12, 0x01), (5, 0x27), (14, 1), (23, 1), (23, 2)],
     );
     // Nor may Gone.
     unsound(
         "1400 0100 03 0F 4800 0000 0000 00 00 00000000 01000000",
-        &[(12, 0x01), (5, 0x2F), (14, 1)],
+        &[(12, 0x01), (5, 0x2F), (14, 1), (23, 1), (23, 4)],
     );
 }
 
@@ -167,8 +182,8 @@ fn held_and_gone_by_role() {
 
 #[test]
 fn an_unsound_record_is_refused_everywhere_and_left_alone() {
-    let damaged = hex("1400 0100 00 87 4800 0000 0000 00 00 00000000 01000000");
-    for record in [damaged, vec![], vec![0; 21], vec![0; 22], vec![0xFF; 64]] {
+    let damaged = hex("1400 0100 00 87 4800 0000 0000 00 00 00000000 01000000 00 00");
+    for record in [damaged, vec![], vec![0; 22], vec![0; 24], vec![0xFF; 64]] {
         let mut room = [0x33; 20];
         let mut used = record.clone();
         assert_eq!(initialization(&mut used, &[0; 5000]), refused(10));

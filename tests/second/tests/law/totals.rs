@@ -139,28 +139,39 @@ impl Given {
 /// A session of the applications that opened with this area, between two others: one
 /// that permits every kind, and a fresh one.
 fn row(ta_ids: &[u32], area: &str) -> Vec<Fields> {
-    let mut session = Made::enabling(ta_ids).make();
+    let mut session = Made::enabling(ta_ids).holding(ALL_CAPABILITIES).make();
     assert_eq!(session.init(area).refusal, 0);
     among_others(session)
 }
 
-fn among_others(session: Box22) -> Vec<Fields> {
-    let mut open = Made::default().make();
-    open.init("");
+/// An open session of the same sort that permits every kind.
+fn permitting_all() -> Box24 {
+    let mut open = Made::default().holding(ALL_CAPABILITIES).make();
+    open.init(ALL_HELD);
+    open
+}
+
+fn among_others(session: Box24) -> Vec<Fields> {
+    let open = permitting_all();
     let fresh = Made::enabling(&[4]).make();
     vec![open.loaded(), session.loaded(), fresh.loaded()]
 }
 
 /// Events that lose and gain kinds: the row, the event, what is lost and what gained.
 fn moving() -> Vec<(Vec<Fields>, Given, u16, u16)> {
-    let fresh = |ta_ids: &[u32]| among_others(Made::enabling(ta_ids).make());
+    let fresh = |ta_ids: &[u32]| {
+        let made = Made::enabling(ta_ids).holding(ALL_CAPABILITIES);
+        among_others(made.make())
+    };
     let lists = |ta_ids: &[u32]| {
         let listed: String = ta_ids.iter().map(|id| format!("{id:04X}8000")).collect();
-        format!("850F{:04X} 80 {listed} {DYNAMIC}", 1 + 4 * ta_ids.len())
+        let length = 1 + 4 * ta_ids.len();
+        format!("850F{length:04X} 80 {listed} {DYNAMIC} {ALL_HELD}")
     };
     vec![
         // An Initialization, negotiation not in force and in force.
-        (fresh(&[4]), arrives(0, ""), 0, ALL_KINDS),
+        (fresh(&[4]), arrives(0, ALL_HELD), 0, ALL_KINDS),
+        (fresh(&[4]), arrives(0, ""), 0, NEEDING_NONE),
         (
             fresh(&[3, 7]),
             arrives(0, &lists(&[7, 3])),
@@ -192,6 +203,19 @@ fn moving() -> Vec<(Vec<Fields>, Given, u16, u16)> {
             kinds(&[0, 8]),
             0,
         ),
+        // Capabilities withdrawn, and held again.
+        (
+            row(&[], ALL_HELD),
+            arrives(1, "85080001 00 89020001 00"),
+            kinds(&[2, 5, 6]),
+            0,
+        ),
+        (
+            row(&[3], "850F0005 80 00038000"),
+            arrives(1, ALL_HELD),
+            0,
+            kinds(&[2, 3, 4, 5, 6]),
+        ),
         // A local change: on, off, and off to a mismatch, which writes nothing.
         (row(&[4], &lists(&[4, 10])), changes(10, 1), 0, kinds(&[9])),
         (
@@ -208,9 +232,9 @@ fn moving() -> Vec<(Vec<Fields>, Given, u16, u16)> {
             kinds(&[7, 8]),
             0,
         ),
-        (row(&[], ""), arrives(3, ""), ALL_KINDS, 0),
+        (row(&[], ALL_HELD), arrives(3, ""), ALL_KINDS, 0),
         (row(&[13], &lists(&[13])), arrives(5, ""), kinds(&[1]), 0),
-        (row(&[], ""), arrives(5, ""), ALL_KINDS, 0),
+        (row(&[], ALL_HELD), arrives(5, ""), ALL_KINDS, 0),
     ]
 }
 
@@ -294,8 +318,7 @@ fn not_counted(refusal: u8) -> RowTotals {
 
 #[test]
 fn recounting_takes_rows_of_1_to_64() {
-    let mut open = Made::default().make();
-    open.init("");
+    let open = permitting_all();
     for length in 0..=70 {
         let expected = match length {
             1..=64 => counted(all(length as u8)),
@@ -307,8 +330,7 @@ fn recounting_takes_rows_of_1_to_64() {
 
 #[test]
 fn recounting_refuses_any_session_that_is_not_sound() {
-    let mut open = Made::default().make();
-    open.init("");
+    let open = permitting_all();
     let unsound = Fields {
         flags: 0x80,
         ..open.loaded()
@@ -335,14 +357,14 @@ fn recounting_counts_what_each_session_permits() {
         // Open and not in force, with IPv6 prefixes disabled.
         (
             "1400 0100 01 07 4801 0000 0000 02 00 00000000 01000000",
-            ALL_KINDS - kinds(&[1]),
+            NEEDING_NONE - kinds(&[1]),
         ),
         // Ready; Held; Gone.
         ("1400 0100 00 07 4801 0000 FF03 00 00 00000000 01000000", 0),
         ("1400 0100 02 07 4801 0000 FF03 00 00 00000000 01000000", 0),
         ("1400 0100 03 0F 4801 0000 FF03 00 00 00000000 01000000", 0),
     ] {
-        let session = Box22(hex(text).try_into().unwrap()).loaded();
+        let session = holding_none(text).loaded();
         let fresh = Made::enabling(&[4]).make().loaded();
         let twice = Totals {
             of: std::array::from_fn(|kind| 2 * (permits >> kind & 1) as u8),
@@ -507,6 +529,7 @@ fn fresh(numbers: &mut Numbers) -> Fields {
         protected: numbers.below(0x400) as u32,
         enabled: (numbers.next() & 0x1FFF) as u32,
         number: numbers.next() as u32,
+        capabilities: numbers.below(8) as u32,
     }
     .make()
     .loaded()
@@ -578,12 +601,13 @@ fn totals_equal_the_walk_after_any_events() {
 /// A row of 64 opens, session by session, and closes again.
 #[test]
 fn a_whole_row_opens_and_closes() {
-    let mut row = vec![Made::default().make().loaded(); 64];
+    let made = Made::default().holding(ALL_CAPABILITIES);
+    let mut row = vec![made.make().loaded(); 64];
     let mut totals = Totals::default();
     for at in 0..64 {
         let given = Given {
             at,
-            ..arrives(0, "")
+            ..arrives(0, ALL_HELD)
         };
         let after = given.happens(&row, totals);
         (row, totals) = (after.row, after.totals);

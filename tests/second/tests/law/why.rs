@@ -1,9 +1,10 @@
-//! Why a kind may not be sent: every reason, and which comes first.
+//! Why a kind may not be sent: every reason, and which comes first. Where nothing is said of
+//! capabilities, none is held: kinds 2 to 6 then have reason 5 at the least.
 
 use crate::*;
 
 /// After an Initialization with this area, which opens it.
-fn opened(made: Made, area: &str) -> Box22 {
+fn opened(made: Made, area: &str) -> Box24 {
     let mut session = made.make();
     assert_eq!(session.init(area).outcome, 0);
     session
@@ -28,11 +29,11 @@ fn one_in_every_state_but_open() {
 
 #[test]
 fn two_for_what_the_peer_has_disabled() {
-    // Not in force: nothing else keeps a kind back.
+    // Not in force: nothing but a capability keeps another kind back.
     let mut session = opened(Made::enabling(&[]), "850D0003 80 90 C0");
-    assert_eq!(session.why(), "2000000020");
+    assert_eq!(session.why(), "2055555020");
     session.cap("850D0005 80 10 40 A0 B0");
-    assert_eq!(session.why(), "0200000200");
+    assert_eq!(session.why(), "0255555200");
     // In force it comes before 3 and 4: kind 7 is not enabled, kind 8 not listed.
     let mut session = opened(Made::enabling(&[4, 7]), "850F0005 80 00048000");
     assert_eq!(session.why(), "0333333343");
@@ -47,7 +48,7 @@ fn three_and_four_only_in_force() {
     // The peer ends the negotiation; or the session does not use TAC.
     let mut session = session;
     session.cap("850F0001 00");
-    assert_eq!(session.why(), "0".repeat(10));
+    assert_eq!(session.why(), "0055555000");
     let session = opened(
         Made {
             uses_tac: false,
@@ -55,7 +56,7 @@ fn three_and_four_only_in_force() {
         },
         "850F0005 80 00048000",
     );
-    assert_eq!(session.why(), "0".repeat(10));
+    assert_eq!(session.why(), "0055555000");
 }
 
 #[test]
@@ -104,7 +105,7 @@ fn ten_then_six_and_no_reason() {
         assert_eq!(why_not(&fresh.0, kind), refused(6));
     }
     for kind in [0, 9, 10, u32::MAX] {
-        assert_eq!(why_not(&fresh.0[..21], kind), refused(10));
+        assert_eq!(why_not(&fresh.0[..22], kind), refused(10));
         assert_eq!(why_not(&[], kind), refused(10));
     }
 }

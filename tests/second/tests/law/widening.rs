@@ -1,6 +1,7 @@
 //! Enabling more applications never costs a kind: two sessions alike but for
 //! that are opened by one Initialization and led through the same events.
 
+use crate::capabilities::with_held;
 use crate::numbers::Numbers;
 use crate::*;
 
@@ -14,7 +15,7 @@ fn opened_by(set: u16, protected: u16) -> u16 {
         .fold(0, |kinds, bit| kinds | rows[bit])
 }
 
-fn compare(first: &Box22, second: &Box22) {
+fn compare(first: &Box24, second: &Box24) {
     assert_eq!(second.state(), OPEN);
     let (small, large) = (first.permitted(), second.permitted());
     assert_eq!(small & !large, 0);
@@ -25,10 +26,12 @@ fn compare(first: &Box22, second: &Box22) {
         .filter(|(bit, _)| first.disabled() >> bit & 1 == 1)
         .fold(0, |kinds, (_, kind)| kinds | kind);
     let listed = first.listed();
+    let held = first.ours() & first.theirs();
     let further = if first.in_force() {
         opened_by(second.enabled() & !first.enabled() & listed, protected)
             & !opened_by(first.enabled() & listed, protected)
             & !disabled
+            & with_held(held)
     } else {
         0
     };
@@ -48,6 +51,7 @@ fn more_applications_never_cost_a_kind() {
             protected: numbers.below(0x400) as u32,
             enabled: (numbers.next() & numbers.next() & 0x1FFF) as u32,
             number: numbers.next() as u32,
+            capabilities: numbers.below(8) as u32,
         };
         let mut first = made.make();
         let mut second = Made {

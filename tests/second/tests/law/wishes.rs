@@ -37,7 +37,7 @@ fn bit(app: u32) -> u32 {
 }
 
 /// An Open session whose peer takes Capability messages, or does not.
-fn open(uses_tac: bool, dynamic: bool) -> Box22 {
+fn open(uses_tac: bool, dynamic: bool) -> Box24 {
     let mut session = Made {
         uses_tac,
         ..Made::enabling(&[4])
@@ -49,7 +49,7 @@ fn open(uses_tac: bool, dynamic: bool) -> Box22 {
 
 /// The answer to a wish with this room; in a row it is the same. What is refused, and
 /// what is Unchanged, leaves record, room and wishes as they were.
-fn asked(session: &mut Box22, wishes: u32, app: u32, disable: bool, room: &mut [u8]) -> Wished {
+fn asked(session: &mut Box24, wishes: u32, app: u32, disable: bool, room: &mut [u8]) -> Wished {
     let (before, room_before) = (*session, room.to_vec());
     let mut in_row = sound(&before.0).then(|| before.loaded());
     let mut its_room = room_before.clone();
@@ -70,7 +70,7 @@ fn asked(session: &mut Box22, wishes: u32, app: u32, disable: bool, room: &mut [
 }
 
 /// The refusal of a wish.
-fn refusal(mut session: Box22, wishes: u32, app: u32, disable: bool, room: usize) -> u8 {
+fn refusal(mut session: Box24, wishes: u32, app: u32, disable: bool, room: usize) -> u8 {
     let mut room = vec![0x99; room];
     let wished = asked(&mut session, wishes, app, disable, &mut room);
     wished.answer.refusal
@@ -118,7 +118,7 @@ fn ten_by_the_record_comes_first() {
     session.0[13] = 1;
     for (wishes, app) in [(0, 1), (1, 1), (0, 5), (0x10, 1)] {
         assert_eq!(refusal(session, wishes, app, true, 20), 10);
-        let short = wish(&mut session.0[..21], wishes, app, true, &mut []);
+        let short = wish(&mut session.0[..22], wishes, app, true, &mut []);
         assert_eq!((short.answer, short.wishes), (refused(10), wishes));
     }
     let mut fields = open(true, true).loaded();
@@ -345,7 +345,7 @@ fn wanted_for_every_set_and_kind() {
 }
 
 /// A kind is wanted here exactly if the other end, which may send all else, may send it.
-fn wanted_as_permitted(wishes: u32, other: &Box22) {
+fn wanted_as_permitted(wishes: u32, other: &Box24) {
     assert_eq!(u32::from(other.disabled()), wishes);
     for kind in 0..10 {
         let permitted = permitted(&other.0, kind).permitted;
@@ -353,16 +353,25 @@ fn wanted_as_permitted(wishes: u32, other: &Box22) {
     }
 }
 
+/// Another end that was told these wishes when it opened, and may send all else.
+fn may_send_all(wishes: u32) -> Box24 {
+    let mut other = Made::default().holding(ALL_CAPABILITIES).make();
+    let mut area = sac_of(wishes);
+    area.extend(hex(ALL_HELD));
+    assert_eq!(initialization(&mut other.0, &area).refusal, 0);
+    other
+}
+
 #[test]
 fn the_sac_disables_at_the_other_end_what_was_wished() {
     for wishes in 0..16 {
         for made in roles() {
-            let mut other = made.make();
+            let mut other = made.holding(ALL_CAPABILITIES).make();
             // What was told before is forgotten.
             other.init("850D0005 80 90 A0 B0 C0");
             closed(&mut other.0);
             let mut area = sac_of(wishes);
-            area.extend(hex(DYNAMIC));
+            area.extend(hex(ALL_HELD));
             assert_eq!(initialization(&mut other.0, &area).refusal, 0);
             wanted_as_permitted(wishes, &other);
         }
@@ -395,8 +404,7 @@ fn a_message_changes_one_app_at_the_other_end() {
             assert_eq!(as_before, before);
         }
         // From the same wishes the other end comes to the same.
-        let mut other = Made::default().make();
-        initialization(&mut other.0, &sac_of(wishes));
+        let mut other = may_send_all(wishes);
         capability(&mut other.0, &room[8..]);
         wanted_as_permitted(wished.wishes, &other);
     }
@@ -413,12 +421,11 @@ fn wishes_outlive_open() {
         let mut wishes = numbers.below(16) as u32;
         let mut here = made.wishing(wishes);
         let mut without = here;
-        let mut other = Made::default().make();
+        let mut other = may_send_all(wishes);
         for _ in 0..40 {
             let area = numbers.area();
             if here.state() != OPEN {
-                closed(&mut other.0);
-                initialization(&mut other.0, &sac_of(wishes));
+                other = may_send_all(wishes);
                 openings += 1;
             }
             let number = numbers.next() as u32;
@@ -441,7 +448,7 @@ fn wishes_outlive_open() {
             }
             wanted_as_permitted(wishes, &other);
             // But for the number the session is as one that wishes nothing.
-            without.0[18..].copy_from_slice(&here.0[18..]);
+            without.0[18..22].copy_from_slice(&here.0[18..22]);
             assert_eq!(here, without);
         }
     }

@@ -8,15 +8,16 @@ use Rattle.session.proofs.Session.after_capability.Tie as tie
 
 returns : tie.Need-returns
 unfolding afterCapability flagsAfter listAfter
-returns c = simp (sym (c .before .before .before .takes-tac .ensures) ∙ c .before .before .if1 .taken, c .after-tac .ensures, c .before .part-within2 .ensures, c .before .before .before .before .sac-list .ensures, c .before .before .before .before .before .part-within .ensures, pick-true)
+returns c = simp (sym (c .before .before .before .takes-tac .ensures) ∙ c .before .before .if1 .taken, c .after-tac .ensures, c .before .part-within2 .ensures, c .before .before .before .before .sac-list .ensures, c .before .before .before .before .before .part-within .ensures, c .before .before .before .before .before .before .theirs-after .ensures, pick-true)
 
 returns-2 : tie.Need-returns-2
 unfolding afterCapability flagsAfter listAfter
-returns-2 c = simp (sym (c .before .takes-tac .ensures) ∙ c .if1 .left, c .before .before .sac-list .ensures, c .before .before .before .part-within .ensures, pick-false)
+returns-2 c = simp (sym (c .before .takes-tac .ensures) ∙ c .if1 .left, c .before .before .sac-list .ensures, c .before .before .before .part-within .ensures, c .before .before .before .before .theirs-after .ensures, pick-false)
 
 pub after-capability-spec : {M : Type 1} → statement M
 after-capability-spec =
     tie.close
     (tie.spec
-    (λ c κs. c .before .before .before .pre .sac) (λ c κs. search needs) (λ c κs. search needs) (λ c κs. c .before .before .before .before .before .before .before .pre .tac) (λ c κs. search needs) returns
+    (λ c κs. search needs) (λ c κs. c .before .before .before .before .pre .sac) (λ c κs. search needs) (λ c κs. search needs)
+    (λ c κs. c .before .before .before .before .before .before .before .before .pre .tac) (λ c κs. search needs) returns
     returns-2)

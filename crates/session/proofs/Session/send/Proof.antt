@@ -3,7 +3,7 @@ use mathlib.Core.Path.{sym, ap, _∙_}
 use borrow.Author.Tests.{eq-eqb, ne-eqb}
 use Rattle.choice.proofs.Branch.{pick-true, pick-false}
 use Rattle.sets.specs.Set.{empty}
-use Rattle.session.specs.Session.{nothingCommon, permitted}
+use Rattle.session.specs.Session.{nothingCommon, permittedByBase, permitted}
 use Rattle.session.specs.Decisions.{settled}
 use borrow.Author.Needs.{needs}
 use Rattle.session.proofs.Session.send.Statement.{statement}
@@ -18,7 +18,7 @@ unfolding settled nothingCommon empty
 returns-2 c = simp (sym (c .before .before .before .before .before .in-force .ensures) ∙ c .before .before .before .before .if1 .taken, ne-eqb _ _ (rw (c .before .before .before .negotiated .ensures) at (c .before .before .if2 .left)), c .answered .ensures, c .before .with-next-number .ensures, pick-false)
 
 unmoved-requires : tie.Need-unmoved-requires
-unfolding permitted
+unfolding permitted permittedByBase
 unmoved-requires c κs = ap permitted (c .with-next-number2 .ensures) ∙ c .before .before .before .pre (sym (c .before .before .in-force .ensures) ∙ c .before .if1 .left)
 
 returns-3 : tie.Need-returns-3

@@ -19,21 +19,21 @@ returns : tie.Need-returns
 unfolding heldSound goneSound empty
 returns c =
     let e = c .before .before .if2 .taken in
-    simp (simp (c .before .before .before .before .before .before .before .common .ensures) at (c .before .before .before .before .if1 .taken), is stateHeld e, is stateGone e, c .before .active .ensures, c .leaves-gone .ensures, and-true, pick-true)
+    simp (simp (c .before .before .before .before .before .before .before .before .common .ensures) at (c .before .before .before .before .if1 .taken), is stateHeld e, is stateGone e, c .before .active .ensures, c .leaves-gone .ensures, and-true, pick-true)
 
 returns-2 : tie.Need-returns-2
 unfolding heldSound goneSound empty
 returns-2 c =
     let e = c .before .before .before .if3 .taken in
-    simp (simp (c .before .before .before .before .before .before .before .before .before .before .common .ensures) at (c .before .before .before .before .before .before .before .if1 .taken), is stateHeld e, is stateGone e, c .before .before .active2 .ensures, c .before .leaves-gone2 .ensures, c .recorded .ensures, pick-true)
+    simp (simp (c .before .before .before .before .before .before .before .before .before .before .before .common .ensures) at (c .before .before .before .before .before .before .before .if1 .taken), is stateHeld e, is stateGone e, c .before .before .active2 .ensures, c .before .leaves-gone2 .ensures, c .recorded .ensures, pick-true)
 
 returns-3 : tie.Need-returns-3
 unfolding heldSound goneSound empty
-returns-3 c = simp (simp (c .before .before .before .before .before .before .before .common .ensures) at (c .before .before .before .before .if1 .taken), ne-eqb _ _ (c .before .before .if2 .left), ne-eqb _ _ (c .if3 .left), pick-true)
+returns-3 c = simp (simp (c .before .before .before .before .before .before .before .before .common .ensures) at (c .before .before .before .before .if1 .taken), ne-eqb _ _ (c .before .before .if2 .left), ne-eqb _ _ (c .if3 .left), pick-true)
 
 returns-4 : tie.Need-returns-4
 unfolding heldSound goneSound empty
-returns-4 c = simp (simp (c .before .before .before .common .ensures) at (c .if1 .left), pick-false)
+returns-4 c = simp (simp (c .before .before .before .before .common .ensures) at (c .if1 .left), pick-false)
 
 pub shut-sound-spec : {M : Type 1} → statement M
 shut-sound-spec =

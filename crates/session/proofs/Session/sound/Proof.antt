@@ -8,7 +8,7 @@ use Rattle.choice.specs.Pick.{pick, only, unless}
 use Rattle.sets.specs.Set.{has, one, common, union, with, empty, meets}
 use Rattle.sets.proofs.Shared.{meets-none, meets-with}
 use Rattle.session.specs.declared.Session.{Session}
-use Rattle.session.specs.Session.{stateOpen, stateHeld, stateGone, isOpen, usesTac, inForce, dynamic, inForceBit, dynamicBit, clearedOutOfOpen, negotiated, spareZero, forceSound, listedSound, openSound, helloSound, heldSound, goneSound, sound}
+use Rattle.session.specs.Session.{stateOpen, stateHeld, stateGone, isOpen, usesTac, inForce, dynamic, inForceBit, dynamicBit, clearedOutOfOpen, negotiated, spareZero, forceSound, listedSound, openSound, theirsSound, helloSound, heldSound, goneSound, sound}
 use borrow.Author.Needs.{needs}
 use Rattle.session.proofs.Session.sound.Statement.{statement}
 use Rattle.session.proofs.Session.sound.Tie as tie
@@ -19,16 +19,18 @@ unfolding pick
 open-rules true uses listed = sym (and-true uses)
 open-rules false uses listed = sym (and-true listed)
 
-shut-rules : (force dyn listed disabled rest : Bool)
-    → pick (not (force || dyn) && (listed && disabled)) rest false ≡ (only force false && (unless force listed && ((disabled && not dyn) && rest)))
+shut-rules : (force dyn listed disabled theirs rest : Bool)
+    → pick (not (force || dyn) && (listed && (disabled && theirs))) rest false
+    ≡ (only force false && (unless force listed && ((disabled && not dyn) && (theirs && rest))))
 unfolding pick
-shut-rules true dyn listed disabled rest = refl
-shut-rules false true true true rest = refl
-shut-rules false true true false rest = refl
-shut-rules false true false disabled rest = refl
-shut-rules false false true true rest = refl
-shut-rules false false true false rest = refl
-shut-rules false false false disabled rest = refl
+shut-rules true dyn listed disabled theirs rest = refl
+shut-rules false true true true theirs rest = refl
+shut-rules false true true false theirs rest = refl
+shut-rules false true false disabled theirs rest = refl
+shut-rules false false true true true rest = refl
+shut-rules false false true true false rest = refl
+shut-rules false false true false theirs rest = refl
+shut-rules false false false disabled theirs rest = refl
 
 -- the flags of Open are those of force and of the peer's dynamic flag
 flags-of-open : (flags : ℕ) → empty (common flags clearedOutOfOpen) ≡ not (has flags inForceBit || has flags dynamicBit)
@@ -43,17 +45,17 @@ is asked e = ap (λ (n : ℕ). eqb n asked) e
 
 module _ (s : Session) (spare : spareZero s ≡ true) (hello : helloSound s ≡ true) where
   in-open : s .state ≡ stateOpen → pick (inForce s) (usesTac s && not (empty (negotiated s))) (empty (s .listed)) ≡ sound s
-  unfolding sound forceSound listedSound openSound heldSound goneSound
+  unfolding sound forceSound listedSound openSound theirsSound heldSound goneSound
   in-open e =
       simp (spare, hello, is stateOpen e, is stateHeld e, is stateGone e)
       (open-rules (inForce s) (usesTac s && not (empty (negotiated s))) (empty (s .listed)))
 
   not-in-open : isOpen s ≡ false
-      → pick (empty (common (s .flags) clearedOutOfOpen) && (empty (s .listed) && empty (s .disabled))) (heldSound s && goneSound s) false ≡ sound s
-  unfolding sound forceSound listedSound openSound
+      → pick (empty (common (s .flags) clearedOutOfOpen) && (empty (s .listed) && (empty (s .disabled) && empty (s .theirs)))) (heldSound s && goneSound s) false ≡ sound s
+  unfolding sound forceSound listedSound openSound theirsSound
   not-in-open shut =
       simp (spare, hello, shut, flags-of-open (s .flags))
-      (shut-rules (inForce s) (dynamic s) (empty (s .listed)) (empty (s .disabled)) (heldSound s && goneSound s))
+      (shut-rules (inForce s) (dynamic s) (empty (s .listed)) (empty (s .disabled)) (empty (s .theirs)) (heldSound s && goneSound s))
 
 -- the rule of the Hello fails
 no-hello : (s : Session) → helloSound s ≡ false → sound s ≡ false

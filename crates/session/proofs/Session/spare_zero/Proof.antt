@@ -7,7 +7,7 @@ use Rattle.session.proofs.Session.spare_zero.Tie as tie
 
 returns : tie.Need-returns
 unfolding spareZero below
-returns c = simp (le-leb _ _ (c .before .before .before .before .before .if1 .taken))
+returns c = simp (le-leb _ _ (c .before .before .before .before .before .before .before .if1 .taken))
 
 returns-2 : tie.Need-returns-2
 unfolding spareZero below

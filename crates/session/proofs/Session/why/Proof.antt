@@ -20,7 +20,7 @@ returns-3 c = simp (c .before .before .before .before .before .if1 .left, sym (c
 
 returns-4 : tie.Need-returns-4
 unfolding why unopened
-returns-4 c = simp (c .before .before .before .before .if1 .left, sym (c .before .before .before .disables-kind .ensures) ∙ c .before .before .if2 .left, sym (c .before .in-force .ensures) ∙ c .if3 .left, pick-false)
+returns-4 c = simp (c .before .before .before .before .before .if1 .left, sym (c .before .before .before .before .disables-kind .ensures) ∙ c .before .before .before .if2 .left, sym (c .before .before .in-force .ensures) ∙ c .before .if3 .left, c .why-barred .ensures, pick-false)
 
 pub why-spec : {M : Type 1} → statement M
 why-spec =
@@ -29,4 +29,4 @@ why-spec =
     returns
     (λ c κs. search needs) returns-2
     (λ c κs. search needs) (λ c κs. search needs) returns-3
-    returns-4)
+    (λ c κs. search needs) returns-4)

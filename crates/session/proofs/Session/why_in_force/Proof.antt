@@ -19,9 +19,9 @@ opens-more protects a b = gather-within (opens protects) applicationCount (commo
 
 returns : tie.Need-returns
 returns c =
-    let at = c .before .before .before .args in let s = at .self in
-    let both = rw (c .before .before .negotiated .ensures) at (sym (c .before .opens-kind .ensures) ∙ c .if1 .taken) in
-    simp (both, opens-more (s .protects) (s .enabled) (s .listed) (at .kind) both, pick-false)
+    let at = c .before .before .before .before .args in let s = at .self in
+    let both = rw (c .before .before .before .negotiated .ensures) at (sym (c .before .before .opens-kind .ensures) ∙ c .before .if1 .taken) in
+    c .why-barred .ensures ∙ simp (both, opens-more (s .protects) (s .enabled) (s .listed) (at .kind) both, pick-false)
 
 returns-2 : tie.Need-returns-2
 returns-2 c =
@@ -35,6 +35,6 @@ pub why-in-force-spec : {M : Type 1} → statement M
 why-in-force-spec =
     tie.close
     (tie.spec
-    (λ c κs. search needs) (λ c κs. search needs) returns
+    (λ c κs. search needs) (λ c κs. search needs) (λ c κs. search needs) returns
     (λ c κs. search needs) returns-2
     returns-3)
