@@ -1,6 +1,6 @@
 -- What holds after every event, read off what it was decided to come to: the session is sound if it was, its numbers stay below 2 ^ 32, what is refused
--- changes nothing, lost and gained are by the permitted kinds before and after, outcome 2 is what a mismatch notification leaves, and outcome 3 a session that
--- was to be admitted. By cases on the decision, and the facts of its view. Assumes nothing.
+-- changes nothing, lost and gained are by the permitted kinds before and after, our capabilities stay and the peer's are what the event tells of them, outcome 2
+-- is what a mismatch notification leaves, and outcome 3 a session that was to be admitted. By cases on the decision, and the facts of its view. Assumes nothing.
 use Prim.Native.Nat.{ℕ, _+_, _^_, _<_}
 use mathlib.Core.Path.{_≡_, refl, sym, ap, ap₂, _∙_, subst}
 use mathlib.Core.Bool.{Bool, true, false, _&&_, _||_, and-true}
@@ -9,9 +9,9 @@ use native.Mathlib.Nat.{mod-lt}
 use native.Mathlib.Omega.{arith}
 use lib.Dec.{eqb, lit<}
 use lib.Pow.{pow-pos}
-use borrow.Author.Tests.{eqb-true}
+use borrow.Author.Tests.{eqb-true, ne-eqb}
 use Rattle.choice.specs.Pick.{pick}
-use Rattle.choice.proofs.Branch.{by-test, pick-both, taken, left}
+use Rattle.choice.proofs.Branch.{pick-true, by-test, pick-both, taken, left}
 use Rattle.sets.specs.Set.{has, common, empty, minus}
 use Rattle.sets.proofs.Bounds.{common-lt}
 use Rattle.sets.proofs.Members.{has-common, has-all, ext}
@@ -29,7 +29,7 @@ use Rattle.session.specs.Events.{checked, unlessRefused, afterInitializa
 use Rattle.session.proofs.SoundMeans.{sound-means, means-sound}
 use Rattle.session.proofs.Shapes.{shut-permits}
 use Rattle.session.proofs.Made.{never, ready-shut, mismatched-sound, mismatched-shut, next-sound, own-mismatched}
-use Rattle.session.proofs.View.{Makes, MakesFound, admits-opens, Facts, facts-of}
+use Rattle.session.proofs.View.{heard, Makes, MakesFound, admits-opens, tells-unheard, Facts, facts-of}
 
 -- ---- sound
 module _ (s : Session) (r : Sound s) where
@@ -151,7 +151,7 @@ module _ (s : Session) where
 
   settled-refusal : (e : Event) (c : Decision) → Facts s e c → OwnRefusal (settled s c)
   unfolding settled answered
-  settled-refusal e (Refused n) f = f
+  settled-refusal e (Refused n) f = f .1
   settled-refusal e Unchanged f = lit< tt
   settled-refusal e (Done t) f = lit< tt
   settled-refusal e (AsMismatch t) f = lit< tt
@@ -166,6 +166,58 @@ module _ (s : Session) where
       go : (b : Bool) → sound s ≡ b → step s e .answer .refusal < totalOutside
       go true h = settled-refusal e (decision s e) (facts-of s (sound-means s h) e)
       go false h = subst OwnRefusal (sym (unsound-refused s e h)) (lit< tt)
+
+-- ---- ours never change, and the peer's are what the event tells of them
+mismatched-ours : (t : Session) → mismatched t .ours ≡ t .ours
+unfolding mismatched
+mismatched-ours t = by-test Kept-ours (λ _. by-test Kept-ours (λ _. refl) (λ _. refl)) (λ _. refl)
+  where
+    Kept-ours : Session → Type 0
+    Kept-ours u = u .ours ≡ t .ours
+
+module _ (s : Session) (e : Event) where
+  abbrev Ours : After → Type 0
+  Ours after = after .session .ours ≡ s .ours
+
+  settled-ours : (c : Decision) → Facts s e c → Ours (settled s c)
+  unfolding settled answered
+  settled-ours (Refused n) f = refl
+  settled-ours Unchanged f = refl
+  settled-ours (Done t) f = f .makes .ours
+  settled-ours (AsMismatch t) f = mismatched-ours t ∙ f .makes .ours
+  settled-ours (Negotiate t) f = by-test Ours (λ _. mismatched-ours t ∙ f .makes .ours) (λ _. f .makes .ours)
+  settled-ours (Admit t belowLimit) f =
+      let lost = mismatched-ours t ∙ f .0 .makes .ours in
+      by-test Ours (λ _. lost) (λ _. by-test Ours (λ _. lost) (λ _. f .0 .makes .ours))
+  settled-ours (Send t written) f = by-test Ours (λ _. mismatched-ours t ∙ f .0 .makes .ours) (λ _. f .0 .makes .ours)
+  settled-ours (Tell written) f = refl
+
+  pub step-ours : step s e .session .ours ≡ s .ours
+  step-ours = go (sound s) refl
+    where
+      go : (b : Bool) → sound s ≡ b → step s e .session .ours ≡ s .ours
+      go true h = settled-ours (decision s e) (facts-of s (sound-means s h) e)
+      go false h = ap (λ (z : After). z .session .ours) (unsound-refused s e h)
+
+  -- of a session that is Open after it
+  abbrev Theirs : After → Type 0
+  Theirs after = isOpen (after .session) ≡ true → after .session .theirs ≡ pick (eqb (after .answer .refusal) notRefused) (heard (s .theirs) e) (s .theirs)
+
+  settled-theirs : (c : Decision) → Facts s e c → Theirs (settled s c)
+  unfolding settled answered
+  settled-theirs (Refused n) f = λ _. sym (left _ _ (ne-eqb n notRefused (λ is. absurd (omega (arith, f .0)))))
+  settled-theirs Unchanged f = λ _. f ∙ sym (pick-true _ _)
+  settled-theirs (Done t) f = λ _. f .makes .theirs ∙ sym (pick-true _ _)
+  settled-theirs (AsMismatch t) f = λ k. never k (mismatched-shut t)
+  settled-theirs (Negotiate t) f = by-test Theirs (λ _ k. never k (mismatched-shut t)) (λ _ _. f .makes .theirs ∙ sym (pick-true _ _))
+  settled-theirs (Admit t belowLimit) f =
+      by-test Theirs (λ _ k. never k (mismatched-shut t))
+      (λ _. by-test Theirs (λ _ k. never k (mismatched-shut t)) (λ _ _. f .0 .makes .theirs ∙ sym (pick-true _ _)))
+  settled-theirs (Send t written) f = by-test Theirs (λ _ k. never k (mismatched-shut t)) (λ _ _. f .0 .makes .theirs ∙ sym (pick-true _ _))
+  settled-theirs (Tell written) f = λ _. tells-unheard s e written f ∙ sym (pick-true _ _)
+
+  pub step-theirs : Sound s → Theirs (step s e)
+  step-theirs r = settled-theirs (decision s e) (facts-of s r e)
 
 -- ---- outcome 3: to be admitted, with something common and nothing of it below its limit
 pub record TurnedAway (s : Session) (c : Decision) : Type 0 where

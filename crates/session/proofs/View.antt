@@ -7,7 +7,7 @@ use mathlib.Core.Bool.{Bool, true, false, not, _&&_, _||_, false≢true}
 use mathlib.Core.List.{List}
 use native.Mathlib.Omega.{arith}
 use lib.Dec.{eqb, ltb, leb, lit≤, lit<}
-use borrow.Author.Tests.{eqb-true, leb-true}
+use borrow.Author.Tests.{eqb-true, eqb-false, leb-true}
 use Rattle.choice.specs.Pick.{pick}
 use Rattle.choice.proofs.Branch.{by-test, pick-both, taken}
 use Rattle.choice.proofs.Tests.{and-first, and-second, and-both, or-first, or-second}
@@ -24,6 +24,7 @@ use Rattle.session.specs.declared.Session.{Session}
 use Rattle.session.specs.declared.After.{After}
 use Rattle.session.specs.Session.{stateReady, stateOpen, isReady, isOpen, isGone, usesTac, inForce, dynamic, recorded, usesTacBit, inForceBit, recordedBit, clearedOutOfOpen, negotiated, nothingCommon, Sound, Narrow}
 use Rattle.session.specs.With.{withEnabled, withNext, withOtherEnabled, backToReady, mismatched, heldToReady, greeted, changed}
+use Rattle.session.specs.Capabilities.{theirsAtOpening, theirsAfter}
 use Rattle.session.specs.Decisions.{answered, unchanged, Decision, Refused, Unchanged, Done, AsMismatch, Negotiate, Admit, Send, Tell, settled}
 use Rattle.session.specs.Events.{checked, afterInitialization, onInitialization, afterCapability, flagsAfter, listAfter, onCapability, same, already, writing, onLocalChange, telling, onWish, onMismatch, onHello, onClosed, onUnknown, Event, Initialization, Capability, LocalChange, Wish, Mismatch, Hello, Closed, Unknown, Numbered, decision}
 use Rattle.session.proofs.SoundMeans.{means-sound}
@@ -48,6 +49,17 @@ Enabling s (Hello number) t = t .enabled ≡ s .enabled
 Enabling s Closed t = t .enabled ≡ s .enabled
 Enabling s Unknown t = t .enabled ≡ s .enabled
 
+-- the peer's capabilities after an event that is not refused: the two messages tell of them, and the end of the connection forgets them
+abbrev pub heard : ℕ → Event → ℕ
+heard theirs (Initialization area belowLimit) = theirsAtOpening (readArea area)
+heard theirs (Capability area) = theirsAfter theirs (readArea area)
+heard theirs (LocalChange n on room) = theirs
+heard theirs (Wish wishes n disable room) = theirs
+heard theirs Mismatch = theirs
+heard theirs (Hello number) = theirs
+heard theirs Closed = 0
+heard theirs Unknown = theirs
+
 -- a session that the event makes of s, sound if something is common where negotiation is in force
 pub record Makes (s : Session) (e : Event) (t : Session) : Type 0 where
   pub basic : Basic t
@@ -55,6 +67,8 @@ pub record Makes (s : Session) (e : Event) (t : Session) : Type 0 where
   pub narrow : Narrow s → Numbered e → Narrow t
   pub uses : usesTac t ≡ usesTac s
   pub enabling : Enabling s e t
+  pub ours : t .ours ≡ s .ours
+  pub theirs : t .theirs ≡ heard (s .theirs) e
 
 -- it is not opened, and if it was Open and is, its list and the force are as they were
 pub record Still (s t : Session) : Type 0 where
@@ -139,10 +153,25 @@ Tells s (Hello number) written = ⊥
 Tells s Closed written = ⊥
 Tells s Unknown written = ⊥
 
--- ---- the facts of each decision. 16 is no refusal of a session's own
+-- which tells nothing of the peer
+pub tells-unheard : (s : Session) (e : Event) (written : ℕ) → Tells s e written → s .theirs ≡ heard (s .theirs) e
+tells-unheard s (Initialization area belowLimit) written f = absurd f
+tells-unheard s (Capability area) written f = absurd f
+tells-unheard s (LocalChange n on room) written f = absurd f
+tells-unheard s (Wish wishes n disable room) written f = refl
+tells-unheard s Mismatch written f = absurd f
+tells-unheard s (Hello number) written f = absurd f
+tells-unheard s Closed written f = absurd f
+tells-unheard s Unknown written f = absurd f
+
+-- ---- the facts of each decision
+-- a refusal of a session's own: it is one, and it is not 16, which is a row's
+abbrev pub Own : ℕ → Type 0
+Own n = (notRefused < n) × (n < totalOutside)
+
 abbrev pub Facts : Session → Event → Decision → Type 0
-Facts s e (Refused n) = n < totalOutside
-Facts s e Unchanged = Unit {0}
+Facts s e (Refused n) = Own n
+Facts s e Unchanged = s .theirs ≡ heard (s .theirs) e
 Facts s e (Done t) = MakesStill s e t
 Facts s e (AsMismatch t) = MakesFound s e t
 Facts s e (Negotiate t) = MakesFound s e t
@@ -161,13 +190,13 @@ module _ (s : Session) (e m : ℕ) (h : Within (s .enabled) e) (ev : Event) wher
   abbrev s′ : Session
   s′ = withOtherEnabled s e m
 
-  refuses : (n : ℕ) → n < totalOutside → View s s′ ev (Refused n) (Refused n)
+  refuses : (n : ℕ) → Own n → View s s′ ev (Refused n) (Refused n)
   unfolding settled
   refuses n l = record { facts = l; follows = λ _. alike s e m h }
 
-  stays : View s s′ ev Unchanged Unchanged
+  stays : s .theirs ≡ heard (s .theirs) ev → View s s′ ev Unchanged Unchanged
   unfolding settled
-  stays = record { facts = tt; follows = λ _. alike s e m h }
+  stays unheard = record { facts = unheard; follows = λ _. alike s e m h }
 
   done : (t : Session) (e′ : ℕ) → Within (t .enabled) e′ → MakesStill s ev t → View s s′ ev (Done t) (Done (withOtherEnabled t e′ m))
   done t e′ w f = record { facts = f; follows = done-follows s s′ t e′ m w }
@@ -201,6 +230,8 @@ module _ (s : Session) (e m : ℕ) (h : Within (s .enabled) e) (r : Sound s) (r�
               narrow = λ n _. record { hello = n .hello; next = n .next };
               uses = opened-uses s r q a found;
               enabling = refl;
+              ours = refl;
+              theirs = refl;
             };
             found = record { told = or-first (isReady s) (isOpen s) q; leaves = opened-mismatched s r q a found };
           },
@@ -208,8 +239,8 @@ module _ (s : Session) (e m : ℕ) (h : Within (s .enabled) e) (r : Sound s) (r�
         );
         follows = admit-follows s (withOtherEnabled s e m) (afterInitialization s a found) e m h b;
       })
-      (λ _. refuses s e m h ev (found .refusal) (omega (arith, read-refusal a))))
-      (λ _. refuses s e m h ev wrongState (lit< tt)))
+      (λ q. refuses s e m h ev (found .refusal) (omega (arith, eqb-false (found .refusal) notRefused q), omega (arith, read-refusal a))))
+      (λ _. refuses s e m h ev wrongState (lit< tt, lit< tt)))
 
   -- ---- Capability message
   capability-view : (a : List ℕ) → View s (withOtherEnabled s e m) (Capability a) (onCapability s a) (onCapability (withOtherEnabled s e m) a)
@@ -229,13 +260,15 @@ module _ (s : Session) (e m : ℕ) (h : Within (s .enabled) e) (r : Sound s) (r�
             narrow = λ n _. record { hello = n .hello; next = n .next };
             uses = told-uses s r q a found;
             enabling = refl;
+            ours = refl;
+            theirs = refl;
           };
           found = record { told = or-second (isReady s) (isOpen s) q; leaves = told-mismatched s r q a found };
         };
         follows = negotiate-follows s (withOtherEnabled s e m) (afterCapability s a found) e m h;
       })
-      (λ _. refuses s e m h ev (found .refusal) (omega (arith, read-refusal a))))
-      (λ _. refuses s e m h ev wrongState (lit< tt)))
+      (λ q. refuses s e m h ev (found .refusal) (omega (arith, eqb-false (found .refusal) notRefused q), omega (arith, read-refusal a))))
+      (λ _. refuses s e m h ev wrongState (lit< tt, lit< tt)))
 
   -- ---- Mismatch notification
   mismatch-view : View s (withOtherEnabled s e m) Mismatch (onMismatch s) (onMismatch (withOtherEnabled s e m))
@@ -245,12 +278,12 @@ module _ (s : Session) (e m : ℕ) (h : Within (s .enabled) e) (r : Sound s) (r�
       (pick-both (View s (withOtherEnabled s e m) Mismatch) (isReady s || isOpen s)
       (λ q. record {
         facts = record {
-          makes = record { basic = basic r; is-sound = λ _. r; narrow = λ n _. n; uses = refl; enabling = refl };
+          makes = record { basic = basic r; is-sound = λ _. r; narrow = λ n _. n; uses = refl; enabling = refl; ours = refl; theirs = refl };
           found = record { told = q; leaves = own-mismatched s };
         };
         follows = mismatch-follows s (withOtherEnabled s e m) s e m h (settled (withOtherEnabled s e m) (AsMismatch (withOtherEnabled s e m)));
       })
-      (λ _. refuses s e m h Mismatch wrongState (lit< tt)))
+      (λ _. refuses s e m h Mismatch wrongState (lit< tt, lit< tt)))
 
   -- ---- Connection closed
   closed-view : View s (withOtherEnabled s e m) Closed (onClosed s) (onClosed (withOtherEnabled s e m))
@@ -266,16 +299,18 @@ module _ (s : Session) (e m : ℕ) (h : Within (s .enabled) e) (r : Sound s) (r�
           narrow = λ n _. record { hello = n .hello; next = n .next };
           uses = flag.kept-off (s .flags) clearedOutOfOpen usesTacBit refl;
           enabling = refl;
+          ours = refl;
+          theirs = refl;
         };
         common = sound-common (backToReady s) (back-sound s (basic r));
         still = shut-still s (backToReady s) refl;
       }))
-      (λ _. refuses s e m h Closed wrongState (lit< tt)))
+      (λ _. refuses s e m h Closed wrongState (lit< tt, lit< tt)))
 
   -- ---- an event by no number
   unknown-view : View s (withOtherEnabled s e m) Unknown (onUnknown s) (onUnknown (withOtherEnabled s e m))
   unfolding onUnknown
-  unknown-view = both-checked s e m h Unknown r r′ _ _ (refuses s e m h Unknown wrongState (lit< tt))
+  unknown-view = both-checked s e m h Unknown r r′ _ _ (refuses s e m h Unknown wrongState (lit< tt, lit< tt))
 
   -- ---- Our wish
   wish-view : (wishes n : ℕ) (disable : Bool) (room : ℕ)
@@ -287,7 +322,7 @@ module _ (s : Session) (e m : ℕ) (h : Within (s .enabled) e) (r : Sound s) (r�
       both-checked s e m h ev r r′ _ _
       (pick-both W (soundWishes wishes)
       (λ kept. pick-both W (knownApp n)
-      (λ known. pick-both W (same (holds appCount wishes n) disable) (λ _. stays s e m h ev)
+      (λ known. pick-both W (same (holds appCount wishes n) disable) (λ _. stays s e m h ev refl)
       (λ not-so. pick-both W (isOpen s)
       (λ o. pick-both W (dynamic s)
       (λ d. pick-both W (leb wishLength room)
@@ -295,11 +330,11 @@ module _ (s : Session) (e m : ℕ) (h : Within (s .enabled) e) (r : Sound s) (r�
         facts = record { is-open = o; is-dynamic = d; kept = kept; known = known; not-so = not-so; long = refl; enough = leb-true wishLength room l };
         follows = tell-follows s e m h wishLength;
       })
-      (λ _. refuses s e m h ev noRoom (lit< tt)))
-      (λ _. refuses s e m h ev peerNotDynamic (lit< tt)))
-      (λ _. refuses s e m h ev wrongState (lit< tt))))
-      (λ _. refuses s e m h ev unknownApp (lit< tt)))
-      (λ _. refuses s e m h ev notSound (lit< tt)))
+      (λ _. refuses s e m h ev noRoom (lit< tt, lit< tt)))
+      (λ _. refuses s e m h ev peerNotDynamic (lit< tt, lit< tt)))
+      (λ _. refuses s e m h ev wrongState (lit< tt, lit< tt))))
+      (λ _. refuses s e m h ev unknownApp (lit< tt, lit< tt)))
+      (λ _. refuses s e m h ev notSound (lit< tt, lit< tt)))
 
   -- ---- Hello: the Hello is recorded, in a state that is Open exactly where it was
   greets : (number state : ℕ) → Sound (greeted s state number) → (isOpen s ≡ false → eqb state stateOpen ≡ false) → MakesStill s (Hello number) (greeted s state number)
@@ -312,6 +347,8 @@ module _ (s : Session) (e m : ℕ) (h : Within (s .enabled) e) (r : Sound s) (r�
           narrow = λ n k. record { hello = k; next = n .next };
           uses = flag.kept-on (s .flags) (one recordedBit) usesTacBit refl;
           enabling = refl;
+          ours = refl;
+          theirs = refl;
         };
         common = sound-common (greeted s state number) g;
         still = record { shut = f; listed = λ _ _. refl; force = λ _ _. flag.kept-on (s .flags) (one recordedBit) inForceBit refl };
@@ -333,17 +370,17 @@ module _ (s : Session) (e m : ℕ) (h : Within (s .enabled) e) (r : Sound s) (r�
       (λ _. pick-both W (ltb (s .hello) number)
       (λ _. done s e m h ev (greeted s woken number) e h
       (greets number woken (greeted-sound s r number woken (w .small) (w .as-open) (λ z. never z (w .not-held)) (w .as-gone ∙ q)) (λ z. w .as-open ∙ z)))
-      (λ _. stays s e m h ev))))
+      (λ _. stays s e m h ev refl))))
 
 -- ---- Local change: what is to be written, in a session and in one with other applications enabled. It is refused in both, sent in both or done in both
-writing-along : (R : Decision → Decision → Type 0) (s : Session) (e m : ℕ) (t t′ : Session) (room : ℕ) → ((n : ℕ) → n < totalOutside → R (Refused n) (Refused n))
+writing-along : (R : Decision → Decision → Type 0) (s : Session) (e m : ℕ) (t t′ : Session) (room : ℕ) → ((n : ℕ) → Own n → R (Refused n) (Refused n))
     → ((isOpen s && usesTac s) ≡ true → changeLength ≤ room → R (Send t changeLength) (Send t′ changeLength))
     → ((isOpen s && usesTac s) ≡ false → R (Done t) (Done t′)) → R (writing s t room) (writing (withOtherEnabled s e m) t′ room)
 unfolding writing
 writing-along R s e m t t′ room refused sent set =
     pick-both R (isOpen s && usesTac s)
     (λ o. pick-both R (dynamic s)
-    (λ _. pick-both R (leb changeLength room) (λ q. sent o (leb-true changeLength room q)) (λ _. refused noRoom (lit< tt))) (λ _. refused peerNotDynamic (lit< tt)))
+    (λ _. pick-both R (leb changeLength room) (λ q. sent o (leb-true changeLength room q)) (λ _. refused noRoom (lit< tt, lit< tt))) (λ _. refused peerNotDynamic (lit< tt, lit< tt)))
     set
 
 -- ---- what it makes of one session
@@ -365,6 +402,8 @@ module _ (s : Session) (r : Sound s) (n : ℕ) (on : Bool) (room : ℕ) (known :
         narrow = λ k _. record { hello = k .hello; next = k .next };
         uses = refl;
         enabling = record { known = known; not-so = not-so; is = refl };
+        ours = refl;
+        theirs = refl;
       }
 
   writing-facts : Facts s (LocalChange n on room) (writing s (changed s n on) room)
@@ -457,7 +496,7 @@ module _ (s : Session) (e m : ℕ) (h : Within (s .enabled) e) (r : Sound s) (r�
       → View s (withOtherEnabled s e m) (LocalChange n on room) (pick (same x on) Unchanged (writing s (changed s n on) room))
       (pick (same y on) Unchanged (writing (withOtherEnabled s e m) (changed (withOtherEnabled s e m) n on) room))
   unfolding pick
-  change-view k true true true p q = stays s e m h (LocalChange n true room)
+  change-view k true true true p q = stays s e m h (LocalChange n true room) refl
   change-view k true true false p q = never (in-more (s .enabled) e n h p) q
   change-view k true false true p q =
       record {
@@ -476,15 +515,15 @@ module _ (s : Session) (e m : ℕ) (h : Within (s .enabled) e) (r : Sound s) (r�
       }
   change-view k false true false p q = never (in-more (s .enabled) e n h p) q
   change-view k false false true p q =
-      record { facts = tt; follows = second-changes s e m h n room r (within-second applicationCount n (s .enabled) e h (λ _. out-lacks (s .enabled) n p k)) }
-  change-view k false false false p q = stays s e m h (LocalChange n false room)
+      record { facts = refl; follows = second-changes s e m h n room r (within-second applicationCount n (s .enabled) e h (λ _. out-lacks (s .enabled) n p k)) }
+  change-view k false false false p q = stays s e m h (LocalChange n false room) refl
 
   local-change-view : (on : Bool) → View s (withOtherEnabled s e m) (LocalChange n on room) (onLocalChange s n on room) (onLocalChange (withOtherEnabled s e m) n on room)
   unfolding onLocalChange
   local-change-view on =
       let ev = LocalChange n on room in
       both-checked s e m h ev r r′ _ _
-      (pick-both (View s (withOtherEnabled s e m) ev) (knownApplication n) (λ k. change-view k on _ _ refl refl) (λ _. refuses s e m h ev outOfRange (lit< tt)))
+      (pick-both (View s (withOtherEnabled s e m) ev) (knownApplication n) (λ k. change-view k on _ _ refl refl) (λ _. refuses s e m h ev outOfRange (lit< tt, lit< tt)))
 
 -- ---- every event
 module _ (s : Session) (e m : ℕ) (h : Within (s .enabled) e) (r : Sound s) (r′ : Sound (withOtherEnabled s e m)) where
