@@ -1,9 +1,10 @@
 -- Stored record: "22 octets, little-endian: length 20 (2), kind 1 (2), state (1 ..), flags (1), enabled (2 ..), listed (2), protected kinds (2 ..),
--- disabled (1 ..), zero (1), Hello number (4), next message number (4)". Assumes nothing.
-use Prim.Native.Nat.{ℕ, _-_, _<_, _^_}
+-- disabled (1 ..), zero (1), Hello number (4), next message number (4)". What is lent for a session is these 22 octets and two beside them, our
+-- capabilities and the peer's; by a record the two together are meant from here on. Assumes nothing.
+use Prim.Native.Nat.{ℕ, _<_, _^_}
 use mathlib.Core.Path.{_≡_}
 use mathlib.Core.Bool.{Bool, true, _&&_}
-use mathlib.Core.List.{List, _∷_, _++_}
+use mathlib.Core.List.{List, [], _∷_, _++_}
 use lib.ListN.{length, getD}
 use lib.Dec.{eqb}
 use Rattle.choice.specs.Pick.{pick}
@@ -13,11 +14,11 @@ use Rattle.session.specs.Session.{sound}
 use Rattle.session.specs.With.{noSession}
 
 abbrev pub recordLength : ℕ
-recordLength = 22
+recordLength = 24
 
--- what its first two fields hold: the length of what follows the first, and the kind of record
+-- what its first two fields hold: of the 22 octets those that follow the first, and the kind of record
 abbrev pub lengthField : ℕ
-lengthField = recordLength - 2
+lengthField = 20
 
 abbrev pub kindField : ℕ
 kindField = 1
@@ -29,9 +30,11 @@ encoded s =
     ++ (le16 kindField
     ++ (s .state
     ∷ s .flags
-    ∷ (le16 (s .enabled) ++ (le16 (s .listed) ++ (le16 (s .protects) ++ (s .disabled ∷ 0 ∷ (le32 (s .hello) ++ le32 (s .next))))))))
+    ∷ (le16 (s .enabled)
+    ++ (le16 (s .listed)
+    ++ (le16 (s .protects) ++ (s .disabled ∷ 0 ∷ (le32 (s .hello) ++ (le32 (s .next) ++ (s .ours ∷ s .theirs ∷ [])))))))))
 
--- a lent record with a session stored in it; one that is not of 22 octets stays as it was
+-- a lent record with a session stored in it; one that is not of 24 octets stays as it was
 unfoldable pub storedIn : Session → List ℕ → List ℕ
 storedIn s l = pick (eqb (length l) recordLength) (encoded s) l
 
@@ -49,6 +52,8 @@ fields l =
       enabled = leAt16 l 6;
       listed = leAt16 l 8;
       protects = leAt16 l 10;
+      ours = getD l 22 0;
+      theirs = getD l 23 0;
       hello = leAt32 l 14;
       next = leAt32 l 18;
     }

@@ -1,4 +1,4 @@
-// The stored record, 22 octets, and the session that it holds.
+// The stored record, 22 octets, with the capabilities of both ends in two octets beside it, and the session that they hold.
 ghost use mathlib.Core.Path.{_≡_};
 ghost use Prim.Native.Nat.{_≤_};
 ghost use lib.ListN.{length};
@@ -16,11 +16,11 @@ pub struct Loaded {
     pub session: Session,
 }
 
-// How many octets a record has.
-pub const LENGTH: usize = 22;
+// How many octets a record has, with the two beside it.
+pub const LENGTH: usize = 24;
 
 // What the first two fields of a record hold.
-const LENGTH_FIELD: u16 = LENGTH as u16 - 2;
+const LENGTH_FIELD: u16 = 20;
 
 const KIND_FIELD: u16 = 1;
 
@@ -58,10 +58,12 @@ fn encoded(s: Session) -> [u8; LENGTH]
         (next / 256 % 256) as u8,
         (next / 65536 % 256) as u8,
         (next / 16777216 % 256) as u8,
+        s.ours,
+        s.theirs,
     ]
 }
 
-// Stores the session in a record of exactly 22 octets; any other stays as it was.
+// Stores the session in a record of exactly 24 octets; any other stays as it was.
 pub fn stored_in(s: Session, lent: &mut [u8])
     ensures { λ _. ⌜ now (lent .exit) ≡ storedIn s (now (lent .entry)) ⌝ }
 {
@@ -96,6 +98,8 @@ fn fields(lent: &[u8]) -> Session
         enabled,
         listed,
         protects,
+        ours: lent[22],
+        theirs: lent[23],
         hello,
         next,
     }
@@ -142,7 +146,7 @@ pub fn load(lent: &[u8]) -> Loaded
     }
 }
 
-// Stores a sound session in a record of 22 octets, or answers 10.
+// Stores a sound session in a record of 24 octets, or answers 10.
 pub fn store(s: Session, lent: &mut [u8]) -> u8
     ensures { λ r. ⌜ (r ≡ storeRefusal s (now (lent .entry))) × (now (lent .exit) ≡ storeOctets s (now (lent .entry))) ⌝ }
 {

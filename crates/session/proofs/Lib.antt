@@ -6,4 +6,5 @@ pub mod Alike
 pub mod View
 pub mod Steps
 pub mod PermittedMeans
+pub mod Capabilities
 pub mod Wishes

@@ -1,4 +1,4 @@
--- `record::stored_in` meets its contract: 22 octets over 22 leave nothing of what was there. Assumes nothing.
+-- `record::stored_in` meets its contract: 24 octets over 24 leave nothing of what was there. Assumes nothing.
 use Prim.Native.Nat.{ℕ}
 use mathlib.Core.Path.{sym, ap, _∙_}
 use mathlib.Core.List.{List, _++_}
