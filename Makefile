@@ -2,7 +2,7 @@
 
 PREFIX        ?= /usr/local
 DESTDIR       ?=
-VERSION       := 3.0.0
+VERSION       := 4.0.0
 CALLS         ?= 200000
 SEED          ?= 0x7AC17
 

@@ -85,7 +85,7 @@ nothing-after-refusal =
 
 -- one of the five, or none
 pub read-refusal : (a : List ℕ) → readArea a .refusal ≤ repeated
-read-refusal = whole (λ a r. r .refusal ≤ repeated) (λ a n l. l) 
+read-refusal = whole (λ a r. r .refusal ≤ repeated) (λ a n l. l)
     (λ a v s r h w. lit≤ tt, (λ a v s r h w. lit≤ tt, (λ a v s r h w. lit≤ tt, (λ a v s r h w. lit≤ tt, (λ a v s r h w. lit≤ tt, (λ a v s r h w. lit≤ tt, tt))))))
 
 -- the sets of capabilities have no bits beyond the three

@@ -2,7 +2,7 @@
 -- separately": in a set each stands at the place one below its number, and so does a capability; a kind stands at its own. Assumes nothing.
 use Prim.Native.Nat.{ℕ, zero, suc, _+_, _-_, _^_, _≤_}
 use mathlib.Core.Path.{_≡_}
-use mathlib.Core.Bool.{Bool, true}
+use mathlib.Core.Bool.{Bool, true, false}
 use mathlib.Core.List.{List, [], _∷_}
 use lib.ListN.{getD}
 use lib.Dec.{eqb}
@@ -129,3 +129,11 @@ pub record Some (kindsOf : ℕ → ℕ) (w s k : ℕ) : Type 0 where
   pub most : number ≤ w
   pub member : has s (number - 1) ≡ true
   pub maps : has (kindsOf number) k ≡ true
+
+-- a capability that the kind k needs and that is not held
+pub record Lacking (held k : ℕ) : Type 0 where
+  pub capability : ℕ
+  pub least : 1 ≤ capability
+  pub most : capability ≤ capabilityCount
+  pub needs : has (needed capability) k ≡ true
+  pub not-held : has held (capability - 1) ≡ false

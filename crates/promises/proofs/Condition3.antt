@@ -54,7 +54,7 @@ module _ (s : Session) (e m : ℕ) (h : Within (s .enabled) e) (r : Sound s) (r�
   permits-more k p =
       let w = permitted-means s k r p in
       means-permitted (withOtherEnabled s e m) k
-      (record { is-open = is-open; kind = w .kind; not-disabled = w .not-disabled; negotiates = λ f. more k (w .negotiates f) })
+      (record { is-open = is-open; kind = w .kind; not-disabled = w .not-disabled; negotiates = λ f. more k (w .negotiates f); capable = w .capable })
 
   -- a kind of the second alone: in force, else the first would permit it too
   forced : (k : ℕ) → Permits t k → (Permits s k → ⊥) → inForce s ≡ true
@@ -67,7 +67,7 @@ module _ (s : Session) (e m : ℕ) (h : Within (s .enabled) e) (r : Sound s) (r�
           let w = permitted-means (withOtherEnabled s e m) k r′ p in
           absurd
           (q (means-permitted s k
-          (record { is-open = is-open; kind = w .kind; not-disabled = w .not-disabled; negotiates = λ g. absurd (true≢false (sym g ∙ f)) })))
+          (record { is-open = is-open; kind = w .kind; not-disabled = w .not-disabled; negotiates = λ g. absurd (true≢false (sym g ∙ f)); capable = w .capable })))
 
   to-further : (k : ℕ) → Permits t k × (Permits s k → ⊥) → Further s t k
   unfolding t
@@ -77,7 +77,7 @@ module _ (s : Session) (e m : ℕ) (h : Within (s .enabled) e) (r : Sound s) (r�
       let o = w .negotiates f in
       let none : (n : ℕ) → Enables s n → Lists s n → Maps s n k → ⊥ =
       λ n a b c. p .1 (means-permitted s k
-      (record { is-open = is-open; kind = w .kind; not-disabled = w .not-disabled; negotiates = λ _. negotiator s n k a b c }))
+      (record { is-open = is-open; kind = w .kind; not-disabled = w .not-disabled; negotiates = λ _. negotiator s n k a b c; capable = w .capable }))
       in
       let listed : Lists s (o .number) = in-set (s .listed) (o .number) (o .least) (o .most) (o .is-listed) in
       record {
@@ -92,6 +92,7 @@ module _ (s : Session) (e m : ℕ) (h : Within (s .enabled) e) (r : Sound s) (r�
               not-first = λ a. none (o .number) a listed (o .maps);
               maps = o .maps;
             };
+        capable = w .capable;
       }
 
   from-further : (k : ℕ) → Further s t k → Permits t k × (Permits s k → ⊥)
@@ -104,6 +105,7 @@ module _ (s : Session) (e m : ℕ) (h : Within (s .enabled) e) (r : Sound s) (r�
               kind = kind-of (opens (s .protects) (o .application)) k (opens-lt (s .protects) (o .application) (r .protects)) (o .maps);
               not-disabled = f .not-disabled;
               negotiates = λ _. negotiator (withOtherEnabled s e m) (o .application) k (o .enabled) (o .listed) (o .maps);
+              capable = f .capable;
             }),
         λ p.
             let n = permitted-means s k r p .negotiates (f .in-force) in

@@ -12,7 +12,7 @@ use Rattle.choice.proofs.Tests.{and-first, and-second}
 use Rattle.sets.specs.Set.{below}
 use Rattle.sets.proofs.Bounds.{below-lt}
 use Rattle.refusals.specs.Refusals.{notRefused, outOfRange}
-use Rattle.kinds.specs.Kinds.{applicationCount, kindCount}
+use Rattle.kinds.specs.Kinds.{applicationCount, kindCount, capabilityCount}
 use Rattle.wishes.specs.Wishes.{soundWishes}
 use Rattle.session.specs.declared.Settings.{Settings}
 use Rattle.session.specs.declared.Created.{Created}
@@ -42,12 +42,13 @@ module _ (t : Settings) (small : t .«first_number» < 2 ^ 32) (l : List ℕ) wh
       go true e q = absurd (omega (arith, sym (taken _ _ e) ∙ q))
       go false e q = absurd (omega (arith, sym (left _ _ e) ∙ q))
 
-  fresh-leaves : t .«protected_kinds» < 2 ^ kindCount → t .enabled < 2 ^ applicationCount → soundWishes (t .wishes) ≡ true → Leaves (Fresh (freshBy t))
+  fresh-leaves : t .«protected_kinds» < 2 ^ kindCount → t .enabled < 2 ^ applicationCount → soundWishes (t .wishes) ≡ true → t .capabilities < 2 ^ capabilityCount
+      → Leaves (Fresh (freshBy t))
   unfolding creationRefusal createdIn storedIn
-  fresh-leaves hp he hw = go (eqb (length l) recordLength) refl
+  fresh-leaves hp he hw hc = go (eqb (length l) recordLength) refl
     where
       is-sound : sound (freshBy t) ≡ true
-      is-sound = means-sound (freshBy t) (fresh-sound (t .initiating) (t .active) (t .«uses_tac») (t .drops) (t .«protected_kinds») (t .enabled) (t .«first_number») hp he)
+      is-sound = means-sound (freshBy t) (fresh-sound (t .initiating) (t .active) (t .«uses_tac») (t .drops) (t .«protected_kinds») (t .enabled) (t .capabilities) (t .«first_number») hp he hc)
 
       go : (x : Bool) → eqb (length l) recordLength ≡ x → creationRefusal (Fresh (freshBy t)) l ≡ notRefused → Made (createdIn (Fresh (freshBy t)) l)
       go true e q =
@@ -61,8 +62,10 @@ module _ (t : Settings) (small : t .«first_number» < 2 ^ 32) (l : List ℕ) wh
       by-test Leaves
       (λ h.
       let rest = and-second (below kindCount (t .«protected_kinds»)) _ h in
+      let beside = and-second (below applicationCount (t .enabled)) _ rest in
       fresh-leaves (below-lt kindCount (t .«protected_kinds») (and-first (below kindCount (t .«protected_kinds»)) _ h))
-      (below-lt applicationCount (t .enabled) (and-first (below applicationCount (t .enabled)) _ rest)) (and-second (below applicationCount (t .enabled)) _ rest))
+      (below-lt applicationCount (t .enabled) (and-first (below applicationCount (t .enabled)) _ rest))
+      (and-first (soundWishes (t .wishes)) _ beside) (below-lt capabilityCount (t .capabilities) (and-second (soundWishes (t .wishes)) _ beside)))
       (λ _. refused-leaves)
 
 pub creation-is-sound : CreationIsSound

@@ -35,6 +35,10 @@ kinds-determined =
       opened = by-equation _;
       disables-kind = by-equation _;
       disables = by-equation _;
+      capability-is-in = by-equation _;
+      capability-switched = by-equation _;
+      bars-kind = by-equation _;
+      barred = by-equation _;
     }
 
 octets-determined : OctetsDetermined
@@ -54,12 +58,12 @@ area-determined =
       read-area = λ κs. by-equation _;
       part-within = λ κs. by-law _ (λ a r s p. p);
       part-of = λ κs. by-law _ (λ a r s p. p);
+      s-bit = λ κs. by-equation _;
     }
 
 lists-determined : ListsDetermined
 lists-determined =
     record {
-      s-bit = λ κs. by-equation _;
       tac-list = λ κs. by-equation _;
       sac-list = λ κs. by-equation _;
     }

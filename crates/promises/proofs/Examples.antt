@@ -1,9 +1,9 @@
--- The examples of sessions, of wishes and of rows, and the counterexamples, hold: they are computed, with every definition unfolded. Assumes nothing.
+-- The examples of sessions, of wishes, of rows and of capabilities, and the counterexamples, hold: they are computed, with every definition unfolded. Assumes nothing.
 use mathlib.Core.Path.{refl}
 use Rattle.choice.specs.Pick.{pick}
 use Rattle.sets.specs.Set.{has, common, union, minus, with, without, empty, below, within, numbered, switched, chosen}
 use Rattle.sets.proofs.Subsets.{within-means}
-use Rattle.kinds.specs.Kinds.{isIn, setOf, opens, controlled, gather, opened, disables}
+use Rattle.kinds.specs.Kinds.{isIn, setOf, opens, controlled, needed, gather, opened, disables, barred}
 use Rattle.octets.specs.Octets.{over}
 use Rattle.area.specs.Area.{at16, takeTlv, passOther, byType, part, sBit, tlvAt, readFrom, readArea}
 use Rattle.lists.specs.Tac.{idAt, eAt, stood, after, tacList}
@@ -11,9 +11,11 @@ use Rattle.lists.specs.Sac.{sacElement, sacAfter, sacList}
 use Rattle.message.specs.Sac.{wishElements, sacFor}
 use Rattle.message.specs.Message.{roomWith}
 use Rattle.wishes.specs.Wishes.{soundWishes, wishesAfter, wanted, wishSac, sacRoom}
-use Rattle.session.specs.Session.{nothingCommon, spareZero, forceSound, listedSound, openSound, helloSound, heldSound, goneSound, sound, permitted}
+use Rattle.session.specs.Session.{nothingCommon, spareZero, forceSound, listedSound, openSound, theirsSound, helloSound, heldSound, goneSound, sound, permittedByBase, permitted}
 use Rattle.session.specs.With.{mismatched, heldToReady}
+use Rattle.session.specs.Capabilities.{theirsAfter}
 use Rattle.session.specs.Creation.{raised}
+use Rattle.session.specs.Questions.{unopened, whyBarred, why, whyNot}
 use Rattle.session.specs.Limits.{used, atLimit}
 use Rattle.session.specs.Decisions.{answered, settled}
 use Rattle.session.specs.Events.{afterInitialization, onInitialization, listAfter, flagsAfter, afterCapability, onCapability, writing, onLocalChange, telling, onWish, onHello, onClosed, roomAfter}
@@ -25,13 +27,14 @@ use Rattle.row.specs.Row.{howMany, belowLimit, allSound, eventAt, walked, recou
 use Rattle.promises.specs.Examples.{Examples, WhyItStops, WhyAtThatMoment, FurtherKind}
 use Rattle.promises.specs.RowExamples.{RowExamples, WhyTheOneSession}
 use Rattle.promises.specs.TotalExamples.{TotalExamples}
+use Rattle.promises.specs.CapabilityExamples.{CapabilityExamples}
 use Rattle.promises.specs.WishExamples.{WishExamples}
 
-computed : Examples × (WhyItStops × (WhyAtThatMoment × (FurtherKind × (RowExamples × (WhyTheOneSession × (WishExamples × TotalExamples))))))
+computed : Examples × (WhyItStops × (WhyAtThatMoment × (FurtherKind × (RowExamples × (WhyTheOneSession × (WishExamples × (TotalExamples × CapabilityExamples)))))))
 unfolding
-    pick has common union minus with without empty below within numbered switched chosen isIn setOf opens controlled gather opened disables over at16 takeTlv
+    pick has common union minus with without empty below within numbered switched chosen isIn setOf opens controlled needed gather opened disables barred over at16 takeTlv
     passOther byType tlvAt readFrom readArea part sBit idAt eAt stood after tacList sacElement sacAfter sacList roomWith nothingCommon spareZero forceSound
-    listedSound openSound helloSound heldSound goneSound sound permitted mismatched heldToReady raised used atLimit answered settled afterInitialization
+    listedSound openSound theirsSound helloSound heldSound goneSound sound permittedByBase permitted theirsAfter unopened whyBarred why whyNot mismatched heldToReady raised used atLimit answered settled afterInitialization
     onInitialization listAfter flagsAfter afterCapability onCapability writing onLocalChange onHello roomAfter capped eventOf howMany belowLimit allSound
     eventAt totalAfter goesOutside movedEach oneOutside totalsAfter anyOutside totalled kindTotal walked recount wishElements sacFor soundWishes wishesAfter wanted wishSac sacRoom telling onWish onClosed
 computed = (
@@ -105,19 +108,41 @@ computed = (
                 unsound = refl;
                 outlives = refl;
               },
-              record {
-                two = refl;
-                one-left = refl;
-                loses-65 = refl;
-                loses-66 = refl;
-                loses-0 = refl;
-                gains-63 = refl;
-                gains-64 = refl;
-                left-200 = refl;
-                asked = refl;
-                over-9 = refl;
-                recounted = refl;
-              },
+              (
+                record {
+                  two = refl;
+                  one-left = refl;
+                  loses-65 = refl;
+                  loses-66 = refl;
+                  loses-0 = refl;
+                  gains-63 = refl;
+                  gains-64 = refl;
+                  left-200 = refl;
+                  asked = refl;
+                  over-9 = refl;
+                  recounted = refl;
+                },
+                record {
+                  one = refl;
+                  eight = refl;
+                  ours-alone = refl;
+                  theirs-alone = refl;
+                  is-open = refl;
+                  nothing = refl;
+                  not-theirs = refl;
+                  not-ours = refl;
+                  announced = refl;
+                  withdrawn = refl;
+                  stays = refl;
+                  cleared = refl;
+                  read = refl;
+                  holding = refl;
+                  no-octet = refl;
+                  two-octets = refl;
+                  twice = refl;
+                  next-type = refl;
+                },
+              ),
             ),
           ),
         ),
@@ -148,4 +173,7 @@ pub wish-examples : WishExamples
 wish-examples = computed .1 .1 .1 .1 .1 .1 .0
 
 pub total-examples : TotalExamples
-total-examples = computed .1 .1 .1 .1 .1 .1 .1
+total-examples = computed .1 .1 .1 .1 .1 .1 .1 .0
+
+pub capability-examples : CapabilityExamples
+capability-examples = computed .1 .1 .1 .1 .1 .1 .1 .1

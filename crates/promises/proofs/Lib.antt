@@ -1,6 +1,7 @@
 pub mod Examples
 pub mod Runs
 pub mod Condition3
+pub mod Capabilities
 pub mod Written
 pub mod Records
 pub mod Calls

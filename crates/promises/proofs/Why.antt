@@ -9,17 +9,18 @@ use Rattle.choice.proofs.Branch.{taken, left, by-test}
 use Rattle.choice.proofs.Tests.{and-first, and-second, and-both, not-false}
 use Rattle.sets.specs.Set.{has}
 use Rattle.sets.proofs.Members.{has-common}
-use Rattle.kinds.specs.Kinds.{applicationCount, kindCount, isIn, opens, opened, disables, Some}
+use Rattle.kinds.specs.Kinds.{applicationCount, kindCount, isIn, opens, opened, disables, barred, Some, Lacking}
+use Rattle.kinds.proofs.Capable.{barred-lacking, lacking-barred, unbarred-has, has-unbarred}
 use Rattle.kinds.proofs.Gathered.{opened-some, some-opened, disables-some, some-disables}
 use Rattle.session.specs.declared.Session.{Session}
 use Rattle.session.specs.declared.Reason.{Reason}
 use Rattle.session.specs.Session.{isOpen, inForce, negotiated, sound, Sound, Negotiates}
-use Rattle.session.specs.Questions.{whyNotListed, unopened, why, whyNot}
+use Rattle.session.specs.Questions.{whyNotTheirs, unopened, whyBarred, why, whyNot}
 use Rattle.session.proofs.SoundMeans.{sound-means}
 use Rattle.session.proofs.PermittedMeans.{negotiates-of, permitted-means, means-permitted}
 use Rattle.record.specs.Record.{decoded}
 use Rattle.promises.specs.Words.{Enables, Lists, Maps, Disables, Permits}
-use Rattle.promises.specs.Why.{NotOpen, NotEnabled, NotListed, FirstThatHolds, WhyNot}
+use Rattle.promises.specs.Why.{NotOpen, NotEnabled, NotListed, NotOurs, NotTheirs, FirstThatHolds, WhyNot}
 use Rattle.promises.proofs.Condition3.{in-set, at-place}
 
 -- ---- a test that does not hold, and one that cannot fail to
@@ -68,16 +69,21 @@ module _ (s : Session) (k : ℕ) where
   Sentence (suc (suc zero)) = (NotOpen s → ⊥) × Disables s k
   Sentence (suc (suc (suc zero))) = (NotOpen s → ⊥) × (Disables s k → ⊥) × NotEnabled s k
   Sentence (suc (suc (suc (suc zero)))) = (NotOpen s → ⊥) × (Disables s k → ⊥) × (NotEnabled s k → ⊥) × NotListed s k
-  Sentence (suc (suc (suc (suc (suc n))))) = ⊥
+  Sentence (suc (suc (suc (suc (suc zero))))) = (NotOpen s → ⊥) × (Disables s k → ⊥) × (NotEnabled s k → ⊥) × (NotListed s k → ⊥) × NotOurs s k
+  Sentence (suc (suc (suc (suc (suc (suc zero)))))) =
+      (NotOpen s → ⊥) × (Disables s k → ⊥) × (NotEnabled s k → ⊥) × (NotListed s k → ⊥) × (NotOurs s k → ⊥) × NotTheirs s k
+  Sentence (suc (suc (suc (suc (suc (suc (suc n))))))) = ⊥
 
-  among : (n : ℕ) → Sentence n → n ≤ whyNotListed
+  among : (n : ℕ) → Sentence n → n ≤ whyNotTheirs
   unfolding Sentence
   among zero h = omega arith
   among (suc zero) h = omega arith
   among (suc (suc zero)) h = omega arith
   among (suc (suc (suc zero))) h = omega arith
   among (suc (suc (suc (suc zero)))) h = omega arith
-  among (suc (suc (suc (suc (suc n))))) h = absurd h
+  among (suc (suc (suc (suc (suc zero))))) h = omega arith
+  among (suc (suc (suc (suc (suc (suc zero)))))) h = omega arith
+  among (suc (suc (suc (suc (suc (suc (suc n))))))) h = absurd h
 
   module _ (r : Sound s) (l : k < kindCount) where
     -- ---- the tests decided: each sentence by them
@@ -109,13 +115,29 @@ module _ (s : Session) (k : ℕ) where
           none-listed = λ n e m w. true≢false (sym (by-negotiated n e w m) ∙ p .1);
         }
 
-    permits : isOpen s ≡ true → (Disables s k → ⊥) → unopened s (negotiated s) k ≡ false → Permits s k
-    permits o d v =
+    not-unlisted : unopened s (negotiated s) k ≡ false → NotListed s k → ⊥
+    not-unlisted v w =
+        let o = negotiates-of s k (application (negotiated s) (opened-by (negotiated s) v (w .in-force))) in
+        w .none-listed (o .number) (in-set (s .enabled) (o .number) (o .least) (o .most) (o .is-enabled)) (o .maps)
+        (in-set (s .listed) (o .number) (o .least) (o .most) (o .is-listed))
+
+    not-lacking : (held : ℕ) → has (barred held) k ≡ false → Lacking held k → ⊥
+    not-lacking held free w = true≢false (sym (lacking-barred held k w) ∙ free)
+
+    permits : isOpen s ≡ true → (Disables s k → ⊥) → unopened s (negotiated s) k ≡ false → has (barred (s .ours)) k ≡ false → has (barred (s .theirs)) k ≡ false
+        → Permits s k
+    permits o d v ours theirs =
         means-permitted s k
-        (record { is-open = o; kind = l; not-disabled = d; negotiates = λ f. negotiates-of s k (application (negotiated s) (opened-by (negotiated s) v f)) })
+        (record {
+          is-open = o;
+          kind = l;
+          not-disabled = d;
+          negotiates = λ f. negotiates-of s k (application (negotiated s) (opened-by (negotiated s) v f));
+          capable = λ n least most needs. (unbarred-has (s .ours) k ours n least most needs, unbarred-has (s .theirs) k theirs n least most needs);
+        })
 
     told : Sentence (why s k)
-    unfolding Sentence why
+    unfolding Sentence why whyBarred
     told =
         by-test Sentence
         (λ shut o. true≢false (sym o ∙ not-false (isOpen s) shut))
@@ -128,7 +150,13 @@ module _ (s : Session) (k : ℕ) where
         let enabled : Disables s k → ⊥ = λ a. true≢false (sym (some-disables (s .disabled) k a) ∙ d) in
         by-test Sentence
         (λ u. (is-open, enabled, none-enabled u))
-        (λ u. by-test Sentence (λ v. (is-open, enabled, not-none u, none-listed u v)) (λ v. permits o enabled v))))
+        (λ u. by-test Sentence
+        (λ v. (is-open, enabled, not-none u, none-listed u v))
+        (λ v. by-test Sentence
+        (λ x. (is-open, enabled, not-none u, not-unlisted v, barred-lacking (s .ours) k x))
+        (λ x. by-test Sentence
+        (λ y. (is-open, enabled, not-none u, not-unlisted v, not-lacking (s .ours) x, barred-lacking (s .theirs) k y))
+        (λ y. permits o enabled v x y))))))
 
     -- ---- the sentences decide the tests
     why-open : (NotOpen s → ⊥) → not (isOpen s) ≡ false
@@ -158,6 +186,12 @@ module _ (s : Session) (k : ℕ) where
         w .none-listed (o .number) (in-set (s .enabled) (o .number) (o .least) (o .most) (o .is-enabled)) (o .maps)
         (in-set (s .listed) (o .number) (o .least) (o .most) (o .is-listed))))
 
+    why-listed : (NotEnabled s k → ⊥) → (NotListed s k → ⊥) → unopened s (negotiated s) k ≡ false
+    why-listed f g = off _ (λ v. g (none-listed (why-some f) v))
+
+    why-held : (held : ℕ) → (Lacking held k → ⊥) → has (barred held) k ≡ false
+    why-held held f = off _ (λ e. f (barred-lacking held k e))
+
     at-1 : NotOpen s → why s k ≡ 1
     unfolding why
     at-1 f = taken _ _ (ap not (off (isOpen s) f))
@@ -174,8 +208,20 @@ module _ (s : Session) (k : ℕ) where
     unfolding why
     at-4 p = left _ _ (why-open (p .0)) ∙ left _ _ (why-allowed (p .1)) ∙ left _ _ (why-some (p .2)) ∙ taken _ _ (why-unlisted (p .3))
 
+    at-5 : (NotOpen s → ⊥) × (Disables s k → ⊥) × (NotEnabled s k → ⊥) × (NotListed s k → ⊥) × NotOurs s k → why s k ≡ 5
+    unfolding why whyBarred
+    at-5 p =
+        left _ _ (why-open (p .0)) ∙ left _ _ (why-allowed (p .1)) ∙ left _ _ (why-some (p .2)) ∙ left _ _ (why-listed (p .2) (p .3))
+        ∙ taken _ _ (lacking-barred (s .ours) k (p .4))
+
+    at-6 : (NotOpen s → ⊥) × (Disables s k → ⊥) × (NotEnabled s k → ⊥) × (NotListed s k → ⊥) × (NotOurs s k → ⊥) × NotTheirs s k → why s k ≡ 6
+    unfolding why whyBarred
+    at-6 p =
+        left _ _ (why-open (p .0)) ∙ left _ _ (why-allowed (p .1)) ∙ left _ _ (why-some (p .2)) ∙ left _ _ (why-listed (p .2) (p .3))
+        ∙ left _ _ (why-held (s .ours) (p .4)) ∙ taken _ _ (lacking-barred (s .theirs) k (p .5))
+
     at-0 : Permits s k → why s k ≡ 0
-    unfolding why
+    unfolding why whyBarred
     at-0 h =
         let w = permitted-means s k r h in
         let opened-if : (a : ℕ) → (inForce s ≡ true → opens-it a ≡ true) → unopened s a k ≡ false =
@@ -191,6 +237,8 @@ module _ (s : Session) (k : ℕ) where
         (λ o.
         in-set (negotiated s) (o .number) (o .least) (o .most)
         (has-common (s .enabled) (s .listed) (o .number - 1) ∙ and-both _ _ (o .is-enabled) (o .is-listed))))
+        ∙ left _ _ (has-unbarred (s .ours) k (λ n least most needs. w .capable n least most needs .0))
+        ∙ left _ _ (has-unbarred (s .theirs) k (λ n least most needs. w .capable n least most needs .1))
 
     first : FirstThatHolds s k (why s k)
     unfolding Sentence
@@ -201,6 +249,8 @@ module _ (s : Session) (k : ℕ) where
           disabled = (λ e. subst Sentence e told, at-2);
           not-enabled = (λ e. subst Sentence e told, at-3);
           not-listed = (λ e. subst Sentence e told, at-4);
+          not-ours = (λ e. subst Sentence e told, at-5);
+          not-theirs = (λ e. subst Sentence e told, at-6);
           no-other = among (why s k) told;
         }
 

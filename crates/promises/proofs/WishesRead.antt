@@ -36,7 +36,9 @@ use Rattle.wishes.proofs.Few.{sound-few}
 use Rattle.session.specs.declared.Session.{Session}
 use Rattle.session.specs.declared.After.{After}
 use Rattle.session.specs.Session.{isOpen, usesTac, nothingCommon, sound}
-use Rattle.session.specs.With.{withFlags, withDisabled, withListed, withDisabling}
+use Rattle.session.specs.With.{withFlags, withDisabled, withListed, withDisabling, withTheirs}
+use Rattle.session.specs.Capabilities.{theirsAfter}
+use Rattle.session.proofs.Capabilities.{untold}
 use Rattle.session.specs.Decisions.{answered, Done, Negotiate, settled}
 use Rattle.session.specs.Events.{unlessRefused, takesTac, afterInitialization, afterCapability, onCapability, Capability, step, roomAfter}
 use Rattle.session.proofs.SoundMeans.{sound-means}
@@ -66,8 +68,9 @@ module _ (t : Session) (is-sound : sound t ≡ true) (is-open : isOpen t ≡ tru
   after-is =
       let k = numbered-is appCount n known in
       let list = ap (λ (v : List ℕ). sacList v false (t .disabled)) (sac-value-back n disable) ∙ app-list-back n disable (t .disabled) (omega arith) in
-      ap₂ (λ (f l : ℕ). withListed (withDisabled (withFlags t f) (sacList (part (appOctets n disable) (oneSac .sac)) false (t .disabled))) l) (left _ _ no-tac) (left _ _ no-tac)
-      ∙ ap (withDisabled t) list
+      let told : Session → Session = λ z. withTheirs z (theirsAfter (t .theirs) oneSac) in
+      ap₂ (λ (f l : ℕ). told (withListed (withDisabled (withFlags t f) (sacList (part (appOctets n disable) (oneSac .sac)) false (t .disabled))) l)) (left _ _ no-tac) (left _ _ no-tac)
+      ∙ ap₂ (λ (d theirs : ℕ). withTheirs (withDisabled t d) theirs) list (untold (t .theirs) oneSac refl refl)
 
   -- what is common is as it was, so it is no mismatch
   settles : settled t (Negotiate (withDisabling t n disable)) ≡ settled t (Done (withDisabling t n disable))

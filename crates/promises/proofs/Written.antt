@@ -26,7 +26,9 @@ use Rattle.message.proofs.ReadBack.{oneTac, area-back, read-back, s-back, list-
 use Rattle.session.specs.declared.Session.{Session}
 use Rattle.session.specs.declared.After.{After}
 use Rattle.session.specs.Session.{usesTac, inForce, inForceBit, flagCount, sound}
-use Rattle.session.specs.With.{withFlags, withListed}
+use Rattle.session.specs.With.{withFlags, withListed, withTheirs}
+use Rattle.session.specs.Capabilities.{theirsAfter}
+use Rattle.session.proofs.Capabilities.{untold}
 use Rattle.session.specs.Decisions.{answered, Decision, Refused, Unchanged, Done, AsMismatch, Negotiate, Admit, Send, Tell, settled}
 use Rattle.session.specs.Events.{unlessRefused, takesTac, flagsAfter, listAfter, afterCapability, onCapability, Event, Capability, LocalChange, decision, step, run, roomAfter}
 use Rattle.session.proofs.SoundMeans.{sound-means}
@@ -106,7 +108,9 @@ module _ (t : Session) (o : OtherEnd t) (n : ℕ) (on : Bool) (known : knownAppl
 
   after-is : afterCapability t (tacOctets n on) oneTac ≡ read
   unfolding afterCapability flagsAfter part sacList sacAfter
-  after-is = ap₂ (λ (f l : ℕ). withListed (withFlags t f) l) (taken _ _ takes ∙ taken _ _ (s-back n on)) (taken _ _ takes ∙ list-changes)
+  after-is =
+      ap₂ (λ (f l : ℕ). withTheirs (withListed (withFlags t f) l) (theirsAfter (t .theirs) oneTac)) (taken _ _ takes ∙ taken _ _ (s-back n on)) (taken _ _ takes ∙ list-changes)
+      ∙ ap (withTheirs read) (untold (t .theirs) oneTac refl refl)
 
   event-is : step t (Capability (tacOctets n on)) ≡ settled t (Negotiate read)
   unfolding onCapability

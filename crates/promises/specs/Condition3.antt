@@ -5,7 +5,7 @@ use mathlib.Core.Bool.{true}
 use mathlib.Core.Logic.{_↔_}
 use mathlib.Core.List.{List, _∷_}
 use Rattle.session.specs.declared.Session.{Session}
-use Rattle.session.specs.Session.{isReady, isOpen, inForce, sound}
+use Rattle.session.specs.Session.{isReady, isOpen, inForce, sound, Capable}
 use Rattle.session.specs.With.{withOtherEnabled}
 use Rattle.session.specs.Events.{Event, Initialization, run}
 use Rattle.promises.specs.Run.{StaysOpen}
@@ -28,12 +28,13 @@ pub record OnlySecond (s t : Session) (k : ℕ) : Type 0 where
   pub maps : Maps t application k
 
 -- "exactly when negotiation is in force, the peer has not disabled that kind, no application both enabled in the first and listed by the peer maps to
--- it, and one listed by the peer and enabled only in the second does"
+-- it, and one listed by the peer and enabled only in the second does", and by L4 "any capability the kind needs is held by both"
 pub record Further (s t : Session) (k : ℕ) : Type 0 where
   pub in-force : inForce t ≡ true
   pub not-disabled : Disables t k → ⊥
   pub none-common : (n : ℕ) → Enables s n → Lists t n → Maps t n k → ⊥
   pub only-second : OnlySecond s t k
+  pub capable : Capable t k
 
 -- what holds of the two after an event, while the first is Open
 pub record NeverLess (s t : Session) : Type 0 where

@@ -22,6 +22,10 @@ use Rattle.kinds.proofs.opens_kind.Reads as kinds-opens-kind
 use Rattle.kinds.proofs.opened.Reads as kinds-opened
 use Rattle.kinds.proofs.disables_kind.Reads as kinds-disables-kind
 use Rattle.kinds.proofs.disables.Reads as kinds-disables
+use Rattle.kinds.proofs.Capability.is_in.Reads as kinds-capability-is-in
+use Rattle.kinds.proofs.Capability.switched.Reads as kinds-capability-switched
+use Rattle.kinds.proofs.bars_kind.Reads as kinds-bars-kind
+use Rattle.kinds.proofs.barred.Reads as kinds-barred
 use Rattle.octets.proofs.put.Reads as octets-put
 use Rattle.octets.proofs.put_at.Reads as octets-put-at
 use Rattle.octets.proofs.top_bit.Reads as octets-top-bit
@@ -31,7 +35,7 @@ use Rattle.area.proofs.at16.Reads as area-at16
 use Rattle.area.proofs.read_area.Reads as area-read-area
 use Rattle.area.proofs.part_within.Reads as area-part-within
 use Rattle.area.proofs.part_of.Reads as area-part-of
-use Rattle.lists.proofs.s_bit.Reads as lists-s-bit
+use Rattle.area.proofs.s_bit.Reads as area-s-bit
 use Rattle.lists.proofs.tac_list.Reads as lists-tac-list
 use Rattle.lists.proofs.sac_list.Reads as lists-sac-list
 use Rattle.message.proofs.write.Reads as message-write
@@ -126,6 +130,10 @@ pub record KindsDetermined : Type 0 where
   pub opened : Determined (kinds-opened.Post tt)
   pub disables-kind : Determined (kinds-disables-kind.Post tt)
   pub disables : Determined (kinds-disables.Post tt)
+  pub capability-is-in : Determined (kinds-capability-is-in.Post tt)
+  pub capability-switched : Determined (kinds-capability-switched.Post tt)
+  pub bars-kind : Determined (kinds-bars-kind.Post tt)
+  pub barred : Determined (kinds-barred.Post tt)
 
 pub record OctetsDetermined : Type 0 where
   pub put : (κs : _) → Determines (octets-put.Post κs) (λ r s. s .0 .now)
@@ -139,9 +147,9 @@ pub record AreaDetermined : Type 0 where
   pub read-area : (κs : _) → Determined (area-read-area.Post κs)
   pub part-within : (κs : _) → Determines (area-part-within.Post κs) (λ r s. now r)
   pub part-of : (κs : _) → Determines (area-part-of.Post κs) (λ r s. now r)
+  pub s-bit : (κs : _) → Determined (area-s-bit.Post κs)
 
 pub record ListsDetermined : Type 0 where
-  pub s-bit : (κs : _) → Determined (lists-s-bit.Post κs)
   pub tac-list : (κs : _) → Determined (lists-tac-list.Post κs)
   pub sac-list : (κs : _) → Determined (lists-sac-list.Post κs)
 

@@ -1,5 +1,5 @@
--- Document 01's proved examples: "these twelve stand together and one statement covers them. Sessions use TAC". Areas are octets from the first to the
--- last. Assumes nothing.
+-- Document 01's proved examples: "these twelve stand together and one statement covers them. Sessions use TAC". Nothing is held, as L4 restates 1 and 8.
+-- Areas are octets from the first to the last. Assumes nothing.
 use Prim.Native.Nat.{ℕ}
 use mathlib.Core.Path.{_≡_}
 use mathlib.Core.Bool.{true, false}
@@ -14,9 +14,12 @@ use Rattle.session.specs.Events.{Event, Initialization, Capability, LocalChange
 use Rattle.promises.specs.Run.{StaysOpen}
 use Rattle.promises.specs.Condition3.{ReadyPair}
 
--- a fresh initiating, active session that uses TAC; application n at bit n - 1
+-- a fresh initiating, active session that uses TAC; application n at bit n - 1. It holds these capabilities, or none
+abbrev pub beginsHolding : ℕ → ℕ → ℕ → Session
+beginsHolding ours enabled number = fresh (roleFlags true true true false) 0 enabled ours number
+
 abbrev pub begins : ℕ → ℕ → Session
-begins enabled number = fresh (roleFlags true true true false) 0 enabled number
+begins enabled number = beginsHolding 0 enabled number
 
 -- an Initialization in no row
 abbrev pub arrives : List ℕ → Event
@@ -58,9 +61,9 @@ abbrev pub room16 : List ℕ
 room16 = 1 ∷ 2 ∷ 3 ∷ 4 ∷ 5 ∷ 6 ∷ 7 ∷ 8 ∷ 9 ∷ 10 ∷ 11 ∷ 12 ∷ 13 ∷ 14 ∷ 15 ∷ 16 ∷ []
 
 pub record Examples : Type 0 where
-  -- 1. Initialization, empty area: Open, all ten kinds
+  -- 1. Initialization, empty area: Open; by L4 "kinds 0, 1, 7, 8 and 9 .. when nothing is held"
   pub one : isOpen (run (begins 0x48 1) (arrives [] ∷ [])) ≡ true
-  pub one-kinds : permitted (run (begins 0x48 1) (arrives [] ∷ [])) ≡ 1023
+  pub one-kinds : permitted (run (begins 0x48 1) (arrives [] ∷ [])) ≡ 899
   -- 2. a TAC of 4, enabled 4 and 7: only kind 0
   pub two : permitted (run (begins 0x48 1) (arrives tac4 ∷ [])) ≡ 1
   -- 3. an empty TAC: mismatch
@@ -74,8 +77,8 @@ pub record Examples : Type 0 where
   pub six : step after5 (Capability sacOn) .answer .gained ≡ 256
   -- 7. after 4, 7 with E = 0 and then with E = 1: mismatch
   pub seven : step after4 (Capability (0x85 ∷ 0x0F ∷ 0 ∷ 9 ∷ 0x80 ∷ 0 ∷ 7 ∷ 0 ∷ 0 ∷ 0 ∷ 7 ∷ 0x80 ∷ 0 ∷ [])) .answer .outcome ≡ 2
-  -- 8. after 5, S = 0: kinds 0 to 7 and 9 gained
-  pub eight : step after5 (Capability (0x85 ∷ 0x0F ∷ 0 ∷ 1 ∷ 0 ∷ [])) .answer .gained ≡ 767
+  -- 8. after 5, S = 0: by L4 it "gains 0, 1, 7 and 9, when nothing is held"
+  pub eight : step after5 (Capability (0x85 ∷ 0x0F ∷ 0 ∷ 1 ∷ 0 ∷ [])) .answer .gained ≡ 643
   -- 9. a length of 4: refusal 3; a value past the end: refusal 2
   pub nine : readArea (0x85 ∷ 0x0F ∷ 0 ∷ 4 ∷ 0x80 ∷ 0 ∷ 4 ∷ 0x80 ∷ []) .refusal ≡ 3
   pub nine-past : readArea (0x85 ∷ 0x0F ∷ 0 ∷ 5 ∷ 0x80 ∷ []) .refusal ≡ 2

@@ -1,6 +1,7 @@
 pub mod Run
 pub mod Words
 pub mod Condition3
+pub mod Capabilities
 pub mod Written
 pub mod Records
 pub mod Walked
@@ -15,6 +16,7 @@ pub mod Why
 pub mod Examples
 pub mod RowExamples
 pub mod TotalExamples
+pub mod CapabilityExamples
 pub mod WishExamples
 pub mod Determined
 pub mod Promises

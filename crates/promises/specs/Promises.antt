@@ -1,15 +1,17 @@
 -- All that is promised of sessions, records and rows beyond what each function ensures, and all laws that docs/PROMISES.md cites. Assumes nothing.
-use Rattle.kinds.specs.ByKind.{LayoutsAgree, AppLayoutsAgree}
+use Rattle.kinds.specs.ByKind.{LayoutsAgree, AppLayoutsAgree, CapabilityLayoutsAgree}
 use Rattle.area.specs.Parts.{PartsInside, NothingAfterRefusal}
 use Rattle.area.specs.Tlvs.{ReadByTlvs}
 use Rattle.lists.specs.Tac.{FirstDecides, AbsentStays, ListedIsPresent, UnknownIsSkipped}
 use Rattle.lists.specs.Met.{MetIsStood, UnknownIsNotMet, MetFits}
 use Rattle.lists.specs.Sac.{LaterHolds, IdleStays}
 use Rattle.session.specs.Session.{SoundMeans, PermittedMeans}
+use Rattle.session.specs.Capabilities.{AllHeldIsBase, HoldingMore}
 use Rattle.record.specs.Record.{ReadBack, StoredBack}
 use Rattle.record.specs.Loaded.{LoadedBack, StaysAsLoaded}
 use Rattle.promises.specs.Run.{SoundOverRuns, RefusedIsNothing, RoomStays, RefusedCanGo, WithoutLimits, FoundOrTold}
 use Rattle.promises.specs.Condition3.{Condition3}
+use Rattle.promises.specs.Capabilities.{OursStay, TheirsOnlyOpen, TheirsFollow}
 use Rattle.promises.specs.Written.{ReadAsMeant}
 use Rattle.promises.specs.Records.{RecordsFollow}
 use Rattle.promises.specs.Calls.{CallsAreEvents, RoomsAreEvents, CallsFollow, CallsAnswer, CreationIsSound, PermittedIsAsked, CallsCondition3}
@@ -23,6 +25,7 @@ use Rattle.promises.specs.Why.{WhyNot}
 use Rattle.promises.specs.Wishes.{WishIsKept, WishReadAsMeant, SacIsWritten, SacReadAsMeant, WantedIsNotDisabled, WishesStay, WishesStaySound, WishesOfBoth}
 use Rattle.promises.specs.RowExamples.{RowExamples, WhyTheOneSession}
 use Rattle.promises.specs.TotalExamples.{TotalExamples}
+use Rattle.promises.specs.CapabilityExamples.{CapabilityExamples}
 use Rattle.promises.specs.WishExamples.{WishExamples}
 use Rattle.promises.specs.Determined.{AllDetermined}
 
@@ -30,6 +33,7 @@ pub record Promises : Type 0 where
   -- applications and kinds
   pub layouts-agree : LayoutsAgree
   pub app-layouts-agree : AppLayoutsAgree
+  pub capability-layouts-agree : CapabilityLayoutsAgree
   -- reading, and lists
   pub parts-inside : PartsInside
   pub nothing-after-refusal : NothingAfterRefusal
@@ -55,6 +59,12 @@ pub record Promises : Type 0 where
   pub found-or-told : FoundOrTold
   pub read-as-meant : ReadAsMeant
   pub condition-3 : Condition3
+  -- capabilities of both ends
+  pub all-held-is-base : AllHeldIsBase
+  pub holding-more : HoldingMore
+  pub ours-stay : OursStay
+  pub theirs-only-open : TheirsOnlyOpen
+  pub theirs-follow : TheirsFollow
   -- our wishes, beside the session
   pub wish-is-kept : WishIsKept
   pub wish-read-as-meant : WishReadAsMeant
@@ -113,3 +123,4 @@ pub record Promises : Type 0 where
   pub row-examples : RowExamples
   pub why-the-one-session : WhyTheOneSession
   pub total-examples : TotalExamples
+  pub capability-examples : CapabilityExamples

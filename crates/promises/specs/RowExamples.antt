@@ -16,7 +16,7 @@ use Rattle.promises.specs.RowTotals.{startsWith}
 
 -- a fresh responding, passive session that uses TAC
 abbrev pub responds : ℕ → Session
-responds enabled = fresh (roleFlags false false true false) 0 enabled 1
+responds enabled = fresh (roleFlags false false true false) 0 enabled 0 1
 
 -- 4, LDPv4 Remote LFA, limited and no other application
 abbrev pub limit4 : ℕ → Limits

@@ -108,8 +108,9 @@ pub record IsFresh (s : Session) : Type 0 where
   pub drops : Bool
   pub protects : ℕ
   pub enabled : ℕ
+  pub ours : ℕ
   pub first : ℕ
-  pub made : s ≡ fresh (roleFlags initiating active uses-tac drops) protects enabled first
+  pub made : s ≡ fresh (roleFlags initiating active uses-tac drops) protects enabled ours first
 
 abbrev pub AllFresh : List Session → Type 0
 AllFresh [] = Unit {0}

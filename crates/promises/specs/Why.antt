@@ -4,10 +4,10 @@ use mathlib.Core.Path.{_≡_}
 use mathlib.Core.Bool.{true, false}
 use mathlib.Core.Logic.{_↔_}
 use Rattle.refusals.specs.Refusals.{notRefused, outOfRange, notSound}
-use Rattle.kinds.specs.Kinds.{kindCount}
+use Rattle.kinds.specs.Kinds.{kindCount, Lacking}
 use Rattle.session.specs.declared.Session.{Session}
 use Rattle.session.specs.Session.{isOpen, inForce, sound}
-use Rattle.session.specs.Questions.{whyPermitted, whyNotOpen, whyDisabledByPeer, whyNotEnabled, whyNotListed, whyNot}
+use Rattle.session.specs.Questions.{whyPermitted, whyNotOpen, whyDisabledByPeer, whyNotEnabled, whyNotListed, whyNotOurs, whyNotTheirs, whyNot}
 use Rattle.record.specs.Record.{decoded}
 use Rattle.tacit.proofs.tacit_why_not.Reads as why-not
 use Rattle.promises.specs.Words.{Enables, Lists, Maps, Disables, Permits}
@@ -34,6 +34,14 @@ pub record NotListed (s : Session) (k : ℕ) : Type 0 where
   pub some-enabled : SomeEnabled s k
   pub none-listed : (n : ℕ) → Enables s n → Maps s n k → Lists s n → ⊥
 
+-- the capability that the kind needs is not ours
+abbrev pub NotOurs : Session → ℕ → Type 0
+NotOurs s k = Lacking (s .ours) k
+
+-- it is not the peer's
+abbrev pub NotTheirs : Session → ℕ → Type 0
+NotTheirs s k = Lacking (s .theirs) k
+
 -- ---- the answer: 0 exactly when the kind is permitted, each other reason exactly when its sentence holds and none before it
 pub record FirstThatHolds (s : Session) (k reason : ℕ) : Type 0 where
   pub permitted : (reason ≡ whyPermitted) ↔ Permits s k
@@ -41,7 +49,10 @@ pub record FirstThatHolds (s : Session) (k reason : ℕ) : Type 0 where
   pub disabled : (reason ≡ whyDisabledByPeer) ↔ ((NotOpen s → ⊥) × Disables s k)
   pub not-enabled : (reason ≡ whyNotEnabled) ↔ ((NotOpen s → ⊥) × (Disables s k → ⊥) × NotEnabled s k)
   pub not-listed : (reason ≡ whyNotListed) ↔ ((NotOpen s → ⊥) × (Disables s k → ⊥) × (NotEnabled s k → ⊥) × NotListed s k)
-  pub no-other : reason ≤ whyNotListed
+  pub not-ours : (reason ≡ whyNotOurs) ↔ ((NotOpen s → ⊥) × (Disables s k → ⊥) × (NotEnabled s k → ⊥) × (NotListed s k → ⊥) × NotOurs s k)
+  pub not-theirs :
+      (reason ≡ whyNotTheirs) ↔ ((NotOpen s → ⊥) × (Disables s k → ⊥) × (NotEnabled s k → ⊥) × (NotListed s k → ⊥) × (NotOurs s k → ⊥) × NotTheirs s k)
+  pub no-other : reason ≤ whyNotTheirs
 
 -- of a sound session and a kind below 10, not refused; else 10 or 6, and no reason with it. So answers the C call too, over its contract as the check
 -- reads it: κs are the lifetimes of what is lent, a what is handed in, r what is handed back and s what is left in what was lent

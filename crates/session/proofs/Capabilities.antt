@@ -1,18 +1,25 @@
--- What holding capabilities is worth: all three at both ends permit what the base permitted, and holding more never permits less. By the kinds that
--- are barred. Assumes nothing.
+-- What holding capabilities is worth: all three at both ends permit what the base permitted, and holding more never permits less, by the kinds that are
+-- barred. And a message that tells of none changes none. Assumes nothing.
 use Prim.Native.Nat.{ℕ}
 use mathlib.Core.Path.{_≡_, refl, sym, ap, ap₂, _∙_}
 use mathlib.Core.Bool.{Bool, true, false, not, _&&_, true≢false}
 use Rattle.choice.proofs.Tests.{and-first, and-second, and-both, not-false}
-use Rattle.sets.specs.Set.{has, common, minus, Within}
-use Rattle.sets.proofs.Members.{has-common, has-minus}
+use Rattle.sets.specs.Set.{has, common, union, minus, Within}
+use Rattle.sets.proofs.Members.{has-common, has-minus, union-none}
 use Rattle.sets.proofs.Subsets.{all-left}
 use Rattle.kinds.specs.Kinds.{allCapabilities, barred}
 use Rattle.kinds.proofs.Capable.{barred-within, barred-none}
+use Rattle.area.specs.declared.Reading.{Reading}
 use Rattle.session.specs.declared.Session.{Session}
 use Rattle.session.specs.Session.{held, permittedByBase, permitted}
 use Rattle.session.specs.With.{withOurs, withTheirs}
-use Rattle.session.specs.Capabilities.{AllHeldIsBase, HoldingMore}
+use Rattle.session.specs.Capabilities.{theirsAfter, AllHeldIsBase, HoldingMore}
+
+-- a message without any leaves the peer's as they are
+pub untold : (theirs : ℕ) (r : Reading) → r .capabilities ≡ 0 → r .holding ≡ 0 → theirsAfter theirs r ≡ theirs
+unfolding theirsAfter
+untold theirs r absent none =
+    ap₂ (λ (present held : ℕ). union (minus theirs present) held) absent none ∙ union-none (minus theirs 0) ∙ all-left theirs
 
 pub all-held-is-base : AllHeldIsBase
 unfolding permitted common

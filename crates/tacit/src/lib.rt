@@ -137,7 +137,7 @@ pub extern "C" fn tacit_closed(lent: &mut [u8]) -> Answer
     record::carry(lent, after)
 }
 
-// Stores a fresh session in a room of 22 octets, or answers why not.
+// Stores a fresh session in a room of 24 octets, or answers why not.
 fn created_in(lent: &mut [u8], made: Created) -> u8
     ensures { λ r. ⌜ CreatedIn made (now (lent .entry)) r (now (lent .exit)) ⌝ }
 {

@@ -1,14 +1,16 @@
 -- `promises::kept` meets its contract: each promise by its theorem. Assumes nothing.
-use Rattle.kinds.proofs.Turned.{layouts-agree, app-layouts-agree}
+use Rattle.kinds.proofs.Turned.{layouts-agree, app-layouts-agree, capability-layouts-agree}
 use Rattle.area.proofs.Parts.{parts-inside, nothing-after-refusal}
 use Rattle.area.proofs.Tlvs.{read-by-tlvs}
 use Rattle.lists.proofs.First.{first-decides, absent-stays, listed-is-present, unknown-is-skipped, met-is-stood, unknown-is-not-met, met-fits}
 use Rattle.lists.proofs.Later.{later-holds, idle-stays}
 use Rattle.session.proofs.SoundMeans as sound
 use Rattle.session.proofs.PermittedMeans as permits
+use Rattle.session.proofs.Capabilities.{all-held-is-base, holding-more}
 use Rattle.record.proofs.RoundTrip.{read-back, stored-back, loaded-back, stays-as-loaded}
 use Rattle.promises.proofs.Runs.{sound-over-runs, refused-is-nothing, room-stays, refused-can-go, without-limits, found-or-told}
 use Rattle.promises.proofs.Condition3.{condition-3}
+use Rattle.promises.proofs.Capabilities.{ours-stay, theirs-only-open, theirs-follow}
 use Rattle.promises.proofs.Written.{read-as-meant}
 use Rattle.promises.proofs.Records.{records-follow}
 use Rattle.promises.proofs.Calls.{calls-are-events, rooms-are-events, calls-follow, calls-answer, permitted-is-asked, calls-condition-3}
@@ -19,7 +21,7 @@ use Rattle.promises.proofs.RowTotals.{own-refusals-first, own-unless-ou
 use Rattle.promises.proofs.RowCondition3.{row-condition-3}
 use Rattle.promises.proofs.RowCalls.{row-calls-are-events, row-calls-follow, row-calls-total, row-calls-condition-3}
 use Rattle.promises.proofs.RowRecords.{narrow-over-rows, row-is-run, row-records-follow}
-use Rattle.promises.proofs.Examples.{examples, why-it-stops, why-at-that-moment, further-kind, row-examples, why-the-one-session, total-examples, wish-examples}
+use Rattle.promises.proofs.Examples.{examples, why-it-stops, why-at-that-moment, further-kind, row-examples, why-the-one-session, total-examples, capability-examples, wish-examples}
 use Rattle.promises.proofs.Determined.{all-determined}
 use Rattle.promises.proofs.Why.{why-not}
 use Rattle.promises.proofs.Wishes.{wish-is-kept, wishes-stay, wishes-stay-sound, wishes-of-both}
@@ -32,6 +34,7 @@ returns c =
     record {
       layouts-agree = layouts-agree;
       app-layouts-agree = app-layouts-agree;
+      capability-layouts-agree = capability-layouts-agree;
       parts-inside = parts-inside;
       nothing-after-refusal = nothing-after-refusal;
       read-by-tlvs = read-by-tlvs;
@@ -54,6 +57,11 @@ returns c =
       found-or-told = found-or-told;
       read-as-meant = read-as-meant;
       condition-3 = condition-3;
+      all-held-is-base = all-held-is-base;
+      holding-more = holding-more;
+      ours-stay = ours-stay;
+      theirs-only-open = theirs-only-open;
+      theirs-follow = theirs-follow;
       wish-is-kept = wish-is-kept;
       wish-read-as-meant = wish-read-as-meant;
       sac-is-written = sac-is-written;
@@ -108,6 +116,7 @@ returns c =
       row-examples = row-examples;
       why-the-one-session = why-the-one-session;
       total-examples = total-examples;
+      capability-examples = capability-examples;
     }
 
 pub kept-spec : {M : Type 1} → statement M

@@ -3,6 +3,7 @@
 
 use crate::numbers::Numbers;
 use crate::states::roles;
+use crate::widening::{disabled_by, opened_by};
 use crate::*;
 
 /// Each capability: its bit, its type with U = 1, and the kinds that need it.
@@ -354,23 +355,13 @@ fn sound_by_their_bits_and_the_state() {
 
 /// What document 01 permits.
 fn by_01(session: &Box24) -> u16 {
-    let rows = |set: u16| {
-        let protected = u16::from_le_bytes([session.0[10], session.0[11]]);
-        let rows = [
-            0x001, 0x002, 0x07C, 0x001, 0x002, 0x080, 0x100, protected, 0, 0x200, 0x07C, 0x001,
-            0x002,
-        ];
-        (0..13).fold(0, |kinds, bit| kinds | rows[bit] * (set >> bit & 1))
-    };
-    let disabled = [0x001, 0x002, 0x080, 0x100];
-    let disabled = (0..4).fold(0, |kinds, bit| {
-        kinds | disabled[bit] * u16::from(session.disabled() >> bit & 1)
-    });
-    match (session.state(), session.in_force()) {
-        (OPEN, true) => rows(session.enabled() & session.listed()) & !disabled,
-        (OPEN, false) => ALL_KINDS & !disabled,
+    let protected = u16::from_le_bytes([session.0[10], session.0[11]]);
+    let open = match (session.state(), session.in_force()) {
+        (OPEN, true) => opened_by(session.enabled() & session.listed(), protected),
+        (OPEN, false) => ALL_KINDS,
         _ => 0,
-    }
+    };
+    open & !disabled_by(session.disabled())
 }
 
 /// Sessions that are alike but for what is held go through the same events: each permits

@@ -6,7 +6,7 @@ use crate::numbers::Numbers;
 use crate::*;
 
 /// The kinds that these applications open, written down once more.
-fn opened_by(set: u16, protected: u16) -> u16 {
+pub fn opened_by(set: u16, protected: u16) -> u16 {
     let rows = [
         0x001, 0x002, 0x07C, 0x001, 0x002, 0x080, 0x100, protected, 0, 0x200, 0x07C, 0x001, 0x002,
     ];
@@ -15,16 +15,20 @@ fn opened_by(set: u16, protected: u16) -> u16 {
         .fold(0, |kinds, bit| kinds | rows[bit])
 }
 
+/// The kinds that these Apps control.
+pub fn disabled_by(apps: u8) -> u16 {
+    let controlled = [0x001, 0x002, 0x080, 0x100];
+    (0..4)
+        .filter(|bit| apps >> bit & 1 == 1)
+        .fold(0, |kinds, bit| kinds | controlled[bit])
+}
+
 fn compare(first: &Box24, second: &Box24) {
     assert_eq!(second.state(), OPEN);
     let (small, large) = (first.permitted(), second.permitted());
     assert_eq!(small & !large, 0);
     let protected = u16::from_le_bytes([first.0[10], first.0[11]]);
-    let disabled = [0x001, 0x002, 0x080, 0x100]
-        .into_iter()
-        .enumerate()
-        .filter(|(bit, _)| first.disabled() >> bit & 1 == 1)
-        .fold(0, |kinds, (_, kind)| kinds | kind);
+    let disabled = disabled_by(first.disabled());
     let listed = first.listed();
     let held = first.ours() & first.theirs();
     let further = if first.in_force() {
