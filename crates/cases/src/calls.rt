@@ -40,7 +40,7 @@ pub(crate) fn area_of(call: &[u8]) -> &[u8] {
 // How many octets each call has, by its number; one with an area has as many more as its second and third say.
 const LENGTHS: [usize; 22] = [
     0,
-    18, // create
+    22, // create
     WITH_AREA, // initialization
     WITH_AREA, // capability
     7, // local change
@@ -52,11 +52,11 @@ const LENGTHS: [usize; 22] = [
     1, // retry interval
     1, // sound
     WITH_AREA, // read
-    23, // set the record
+    25, // set the record
     1, // no limits
     22, // set a limit
     1, // load
-    19, // store
+    21, // store
     11, // wish
     6, // the SAC for an Initialization
     9, // wanted

@@ -19,6 +19,7 @@ fn create(lent: &mut [u8], call: &[u8]) {
         enabled: calls::number(call, 6),
         first_number: calls::number(call, 10),
         wishes: calls::number(call, 14),
+        capabilities: calls::number(call, 18),
     };
     let refusal = tacit::tacit_create(lent, settings);
     lines::number(refusal as u64);
@@ -96,6 +97,8 @@ fn read(call: &[u8]) {
     let sac = r.sac;
     lines::number(r.refusal as u64);
     lines::number(r.dynamic as u64);
+    lines::number(r.capabilities as u64);
+    lines::number(r.holding as u64);
     lines::part(tac);
     lines::part(sac);
 }
@@ -156,6 +159,8 @@ fn load(lent: &[u8]) {
     lines::number(s.enabled as u64);
     lines::number(s.listed as u64);
     lines::number(s.protects as u64);
+    lines::number(s.ours as u64);
+    lines::number(s.theirs as u64);
     lines::number(s.hello as u64);
     lines::number(s.next as u64);
 }
@@ -169,8 +174,10 @@ fn store(room: &mut [u8], call: &[u8]) {
         enabled: calls::short(call, 4),
         listed: calls::short(call, 6),
         protects: calls::short(call, 8),
-        hello: calls::number(call, 10),
-        next: calls::number(call, 14),
+        ours: calls::octet(call, 10),
+        theirs: calls::octet(call, 11),
+        hello: calls::number(call, 12),
+        next: calls::number(call, 16),
     };
     lines::number(tacit::tacit_store(session, room) as u64);
     lines::octets(room);
