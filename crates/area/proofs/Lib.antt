@@ -1,4 +1,5 @@
 pub mod Turn
+pub mod Range
 pub mod Parts
 pub mod Tlvs
 pub mod Examples

@@ -86,8 +86,11 @@ unfoldable pub takeTlv : Bool → Bool → Reading → Reading
 takeTlv again wrong found = pick again (refused repeated) (pick wrong (refused badLength) found)
 
 -- "any other type is passed over when U is 1, or when its type is 0x0500 to 0x05FF"; else 4
+abbrev pub inRange : ℕ → Bool
+inRange type = leb 0x0500 type && leb type 0x05FF
+
 unfoldable pub passOther : ℕ → Reading → Reading
-passOther head r = pick (leb uBit head || leb 0x0500 (typeOf head) && leb (typeOf head) 0x05FF) r (refused unknownType)
+passOther head r = pick (leb uBit head || inRange (typeOf head)) r (refused unknownType)
 
 -- a whole TLV by its type, one of these or another: `head` its first 16 bits, `value` where its value stands, `s` its S
 abbrev pub among : List OurType → ℕ → Span → Bool → Reading → Reading

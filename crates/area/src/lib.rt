@@ -1,9 +1,10 @@
 // Reads a parameter area: TLVs one after another, most significant octet first.
 ghost use mathlib.Core.Path.{_≡_};
+ghost use mathlib.Core.Bool.{true};
 ghost use Prim.Native.Nat.{_+_, _≤_, _<_};
 ghost use lib.ListN.{length};
 ghost use Rattle.area.specs.Found.{refused, capabilityStood, withCapability};
-ghost use Rattle.area.specs.Area.{areaMost, at16, notOne, takeTlv, passOther, byType, tlvAt, readArea, part, sBit};
+ghost use Rattle.area.specs.Area.{areaMost, typeOf, at16, notOne, takeTlv, inRange, byType, tlvAt, readArea, part, sBit};
 use kinds::Capability;
 
 // A part of an area: where it starts, and how many octets it has.
@@ -83,16 +84,11 @@ fn take_tlv(again: bool, wrong: bool, found: Reading) -> Reading
     found
 }
 
-// A type that is none of ours. `head` is U, F and the type.
-fn pass_other(head: usize, r: Reading) -> Reading
-    ensures { λ s. ⌜ s ≡ passOther head r ⌝ }
+// Whether a type is passed over whatever its U, where it is none of ours.
+fn in_range(t: usize) -> bool
+    ensures { λ r. ⌜ r ≡ inRange t ⌝ }
 {
-    let t = head % TYPE_COUNT;
-    let is_passed = (PASSED_FIRST <= t) & (t <= PASSED_LAST);
-    if (U_BIT <= head) | is_passed {
-        return r;
-    }
-    refuse(refusals::UNKNOWN_TYPE)
+    (PASSED_FIRST <= t) & (t <= PASSED_LAST)
 }
 
 // S of a value; a value without octets has none.
@@ -118,19 +114,12 @@ fn take_capability(capability: Capability, area: &[u8], value: Span, mut r: Read
     take_tlv(again, value.len != 1, r)
 }
 
-// A whole TLV, by its type. One of ours is put into what was found.
-fn by_type(area: &[u8], head: usize, value: Span, mut r: Reading) -> Reading
-    requires { ⌜ value .start + value .len ≤ length (now area) ⌝ }
+// A whole TLV of a type in the range. One of ours is put into what was found, and any other is passed over.
+fn by_type_in_range(area: &[u8], head: usize, value: Span, mut r: Reading) -> Reading
+    requires { ⌜ (value .start + value .len ≤ length (now area)) × (inRange (typeOf head) ≡ true) ⌝ }
     ensures { λ s. ⌜ s ≡ byType head value (sBit (part (now (area .entry)) value)) r ⌝ }
 {
     let t = head % TYPE_COUNT;
-    // Of ours HSMP alone lies outside the range: what else does is not compared with each of them.
-    if (t < PASSED_FIRST) | (PASSED_LAST < t) {
-        if t == HSMP {
-            return take_capability(Capability(Capability::HSMP), area, value, r);
-        }
-        return pass_other(head, r);
-    }
     let len = value.len as usize;
     if t == TAC {
         let again = 0 < r.tac.len;
@@ -156,7 +145,25 @@ fn by_type(area: &[u8], head: usize, value: Span, mut r: Reading) -> Reading
     if t == MP2MP {
         return take_capability(Capability(Capability::MP2MP), area, value, r);
     }
-    pass_other(head, r)
+    r
+}
+
+// A whole TLV, by its type: `head` is U, F and the type. Of ours HSMP alone lies outside the range; of the others there U decides.
+fn by_type(area: &[u8], head: usize, value: Span, r: Reading) -> Reading
+    requires { ⌜ value .start + value .len ≤ length (now area) ⌝ }
+    ensures { λ s. ⌜ s ≡ byType head value (sBit (part (now (area .entry)) value)) r ⌝ }
+{
+    let t = head % TYPE_COUNT;
+    if in_range(t) {
+        return by_type_in_range(area, head, value, r);
+    }
+    if t == HSMP {
+        return take_capability(Capability(Capability::HSMP), area, value, r);
+    }
+    if U_BIT <= head {
+        return r;
+    }
+    refuse(refusals::UNKNOWN_TYPE)
 }
 
 fn wide(x: u8) -> usize

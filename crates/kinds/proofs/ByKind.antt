@@ -11,16 +11,16 @@ use lib.ListN.{getD, length, List·getD-eq-default}
 use Rattle.choice.specs.Pick.{pick}
 use Rattle.choice.proofs.Branch.{by-test}
 use Rattle.choice.proofs.Tests.{same-test}
-use Rattle.sets.specs.Set.{has, union, minus, with, meets, numbered, switched, chosen}
+use Rattle.sets.specs.Set.{has, union, with, meets, numbered, switched, chosen}
 use Rattle.sets.proofs.Members.{has-pick, has-union, has-above, has-lt}
 use Rattle.sets.proofs.Subsets.{same-members}
 use Rattle.sets.proofs.Switches.{is-numbered}
 use Rattle.sets.proofs.Chosen.{chosen-has, chosen-lt, chosen-more}
 use Rattle.sets.proofs.Shared.{Shared, meets-shared, shared-meets, meets-none, meets-with}
-use Rattle.kinds.specs.Kinds.{applicationCount, kindCount, appCount, capabilityCount, allCapabilities, isIn, sessionProtection, gather, opens, controlled, needed, opened, disables, barred, Some}
-use Rattle.kinds.specs.ByKind.{openersAlways, openers, controllers, needs, standFor, kindsBy}
-use Rattle.kinds.proofs.Table.{openersSets, openers-at, controllersSets, controllers-at, needsSets, needs-at}
-use Rattle.kinds.proofs.Turned.{openers-lt, layouts-agree, controllers-lt, app-layouts-agree, needs-lt, capability-layouts-agree}
+use Rattle.kinds.specs.Kinds.{applicationCount, kindCount, appCount, isIn, sessionProtection, gather, opens, controlled, opened, disables, Some}
+use Rattle.kinds.specs.ByKind.{openersAlways, openers, controllers, standFor, kindsBy}
+use Rattle.kinds.proofs.Table.{openersSets, openers-at, controllersSets, controllers-at}
+use Rattle.kinds.proofs.Turned.{openers-lt, layouts-agree, controllers-lt, app-layouts-agree}
 use Rattle.kinds.proofs.Gathered.{gather-some, some-gather}
 
 -- ---- one kind
@@ -58,11 +58,6 @@ pub disables-meets : (apps k : ℕ) → has (disables apps) k ≡ meets apps (co
 unfolding disables
 disables-meets apps k = gather-meets controlled appCount (controllers k) k (controllers-lt k) (λ n. app-layouts-agree n k) apps
 
-pub barred-meets : (held k : ℕ) → has (barred held) k ≡ meets (minus allCapabilities held) (needs k)
-unfolding barred
-barred-meets held k =
-    gather-meets needed capabilityCount (needs k) k (needs-lt k) (λ n. capability-layouts-agree n k) (minus allCapabilities held)
-
 -- ---- every kind
 -- one kind more
 pub kinds-next : (table : List ℕ) (members i : ℕ) {kinds set next : ℕ} {on : Bool} → kinds ≡ chosen kindCount (standFor table members) i
@@ -89,11 +84,6 @@ has-kinds-by table short members k = go (decLt k kindCount)
 pub disables-by-kind : (apps : ℕ) → kindsBy controllersSets apps ≡ disables apps
 disables-by-kind apps =
     same-members _ _ (λ k. has-kinds-by controllersSets (le-refl kindCount) apps k ∙ ap (meets apps) (controllers-at k) ∙ sym (disables-meets apps k))
-
-pub barred-by-kind : (held : ℕ) → kindsBy needsSets (minus allCapabilities held) ≡ barred held
-barred-by-kind held =
-    same-members _ _ (λ k.
-    has-kinds-by needsSets (le-refl kindCount) (minus allCapabilities held) k ∙ ap (meets (minus allCapabilities held)) (needs-at k) ∙ sym (barred-meets held k))
 
 -- Session Protection, where it is in the set, adds the protected kinds
 module _ (protects applications : ℕ) where

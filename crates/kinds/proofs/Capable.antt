@@ -1,14 +1,17 @@
 -- The kinds that a set of capabilities bars: exactly those that need one that is not in it. So a larger set bars no more, and all
--- capabilities bar nothing. By the members that are lacked. Assumes nothing.
+-- capabilities bar nothing; by the members that are lacked. And the table that the code reads, computed for each of the eight sets. Assumes nothing.
 use mathlib.Core.Path.{_≡_, refl, sym, ap, _∙_}
 use mathlib.Core.Bool.{Bool, true, false, not, _&&_, true≢false}
-use Prim.Native.Nat.{ℕ, _-_, _<_, _≤_}
+use mathlib.Core.List.{List, [], _∷_}
+use Prim.Native.Nat.{ℕ, zero, suc, _-_, _^_, _<_, _≤_}
 use native.Mathlib.Omega.{arith}
+use lib.ListN.{getD}
 use Rattle.choice.specs.Pick.{pick}
 use Rattle.choice.proofs.Tests.{and-first, and-second, and-both, not-false}
-use Rattle.sets.specs.Set.{has, union, minus, Within}
-use Rattle.sets.proofs.Members.{has-minus, has-all}
-use Rattle.kinds.specs.Kinds.{capabilityCount, allCapabilities, needed, gather, barred, Some, Lacking}
+use Rattle.sets.specs.Set.{has, common, union, minus, with, numbered, Within}
+use Rattle.sets.proofs.Members.{has-common, has-minus, has-all}
+use Rattle.sets.proofs.Subsets.{same-members}
+use Rattle.kinds.specs.Kinds.{capabilityCount, allCapabilities, setOf, needed, gather, barred, Some, Lacking}
 use Rattle.kinds.proofs.Gathered.{gather-some, some-gather, gather-within}
 
 abbrev lacked : ℕ → ℕ
@@ -73,6 +76,39 @@ barred-within a b f = gather-within needed capabilityCount (lacked b) (lacked a)
         go : (x : Bool) → has a k ≡ x → not (has a k) ≡ true
         go false e = ap not e
         go true e = absurd (true≢false (sym (f k e) ∙ not-false _ (and-second (has allCapabilities k) _ h)))
+
+-- of other bits than theirs nothing is asked
+known-lacked : (held : ℕ) → lacked (common allCapabilities held) ≡ lacked held
+known-lacked held =
+    same-members _ _ (λ k.
+    has-minus allCapabilities (common allCapabilities held) k
+    ∙ ap (λ (b : Bool). has allCapabilities k && not b) (has-common allCapabilities held k)
+    ∙ go (has allCapabilities k) (has held k)
+    ∙ sym (has-minus allCapabilities held k))
+  where
+    go : (x y : Bool) → x && not (x && y) ≡ x && not y
+    go true y = refl
+    go false y = refl
+
+pub barred-known : (held : ℕ) → barred (common allCapabilities held) ≡ barred held
+unfolding barred
+barred-known held = ap (gather needed capabilityCount) (known-lacked held)
+
+-- ---- the kinds barred by each of the eight sets, computed
+abbrev pub barredSets : List ℕ
+barredSets = 124 ∷ 120 ∷ 100 ∷ 96 ∷ 28 ∷ 24 ∷ 4 ∷ 0 ∷ []
+
+pub barred-at : (held : ℕ) → held < 2 ^ capabilityCount → getD barredSets held 0 ≡ barred held
+unfolding barred gather needed setOf numbered with pick has minus union
+barred-at zero h = refl
+barred-at (suc zero) h = refl
+barred-at (suc (suc zero)) h = refl
+barred-at (suc (suc (suc zero))) h = refl
+barred-at (suc (suc (suc (suc zero)))) h = refl
+barred-at (suc (suc (suc (suc (suc zero))))) h = refl
+barred-at (suc (suc (suc (suc (suc (suc zero)))))) h = refl
+barred-at (suc (suc (suc (suc (suc (suc (suc zero))))))) h = refl
+barred-at (suc (suc (suc (suc (suc (suc (suc (suc n)))))))) h = absurd (omega arith)
 
 -- all capabilities bar nothing
 pub barred-none : barred allCapabilities ≡ 0

@@ -4,7 +4,7 @@ use mathlib.Core.Bool.{true, false}
 use Rattle.choice.specs.Pick.{pick}
 use Rattle.sets.specs.Set.{has, union, minus, with, numbered}
 use Rattle.kinds.specs.Kinds.{isIn, setOf, opens, needed, gather, barred}
-use Rattle.kinds.specs.ByKind.{placed, openersAlways, openers, controllers, needs}
+use Rattle.kinds.specs.ByKind.{placed, openersAlways, openers, controllers}
 
 -- kind 0 is opened by 1, 4 and 12, and by 8 where it is protected; kind 9 by 10; kind 12, which is none, by 8 where a set has that bit, and else by none
 asked : (openers 0 0 ≡ 0x0809)
@@ -27,12 +27,11 @@ by-number : (opens 0x202 8 ≡ 0x202)
 unfolding pick has union with numbered isIn setOf opens placed openersAlways openers controllers
 by-number = (refl, refl, refl, refl, refl, refl, refl, refl)
 
--- nothing held bars kinds 2 to 6; P2MP frees kind 2 alone, MP2MP kinds 3 and 4, HSMP kinds 5 and 6. Kind 9, though of P2MP pseudowires, needs none
+-- nothing held bars kinds 2 to 6; P2MP frees kind 2 alone, MP2MP kinds 3 and 4, HSMP kinds 5 and 6; a bit that is no capability's frees none
 capable : (barred 0 ≡ 0x7C)
     × (barred 1 ≡ 0x78)
     × (barred 2 ≡ 0x64)
     × (barred 4 ≡ 0x1C)
-    × (needs 2 ≡ 1)
-    × (needs 9 ≡ 0)
-unfolding pick has union minus with numbered setOf needed gather barred placed needs
-capable = (refl, refl, refl, refl, refl, refl)
+    × (barred 8 ≡ 0x7C)
+unfolding pick has union minus with numbered setOf needed gather barred
+capable = (refl, refl, refl, refl, refl)

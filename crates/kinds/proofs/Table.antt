@@ -8,13 +8,13 @@ use lib.ListN.{getD, List·getD-map}
 use lib.Dec.{T, ltb, ltb→lt, lit<}
 use Rattle.choice.proofs.Branch.{by-test}
 use Rattle.sets.specs.Set.{union, with}
-use Rattle.kinds.specs.Kinds.{kindCount, opensTable, controlsTable, neededTable, setOf, opens}
-use Rattle.kinds.specs.ByKind.{openersTable, controllersTable, needsTable, placed, openersAlways, controllers, needs}
+use Rattle.kinds.specs.Kinds.{kindCount, opensTable, controlsTable, setOf, opens}
+use Rattle.kinds.specs.ByKind.{openersTable, controllersTable, placed, openersAlways, controllers}
 
 at-place : (f : List ℕ → ℕ) → f [] ≡ 0 → (table : List ℕ) (lists : List (List ℕ)) → table ≡ map f lists → (i : ℕ) → getD table i 0 ≡ f (getD lists i [])
 at-place f z table lists e i = ap (λ (t : List ℕ). getD t i 0) e ∙ rw (← z) (List·getD-map f lists i [])
 
--- ---- by number: the kinds of the thirteen applications, of the four Apps, and of the three capabilities
+-- ---- by number: the kinds of the thirteen applications, and of the four Apps
 abbrev pub opensSets : List ℕ
 opensSets = 1 ∷ 2 ∷ 124 ∷ 1 ∷ 2 ∷ 128 ∷ 256 ∷ 0 ∷ 0 ∷ 512 ∷ 124 ∷ 1 ∷ 2 ∷ []
 
@@ -29,14 +29,7 @@ pub controls-at : (i : ℕ) → getD controlsSets i 0 ≡ setOf (getD controlsTa
 unfolding setOf with union
 controls-at = at-place setOf refl _ controlsTable refl
 
-abbrev pub neededSets : List ℕ
-neededSets = 4 ∷ 24 ∷ 96 ∷ []
-
-pub needed-at : (i : ℕ) → getD neededSets i 0 ≡ setOf (getD neededTable i [])
-unfolding setOf with union
-needed-at = at-place setOf refl _ neededTable refl
-
--- ---- by kind: the applications, the Apps, and the capabilities of the ten
+-- ---- by kind: the applications, and the Apps, of the ten
 abbrev pub openersSets : List ℕ
 openersSets = 2057 ∷ 4114 ∷ 1028 ∷ 1028 ∷ 1028 ∷ 1028 ∷ 1028 ∷ 32 ∷ 64 ∷ 512 ∷ []
 
@@ -50,13 +43,6 @@ controllersSets = 1 ∷ 2 ∷ 0 ∷ 0 ∷ 0 ∷ 0 ∷ 0 ∷ 4 ∷ 8 ∷ 0 ∷ []
 pub controllers-at : (k : ℕ) → getD controllersSets k 0 ≡ controllers k
 unfolding controllers placed with union
 controllers-at = at-place placed refl _ controllersTable refl
-
-abbrev pub needsSets : List ℕ
-needsSets = 0 ∷ 0 ∷ 1 ∷ 2 ∷ 2 ∷ 4 ∷ 4 ∷ 0 ∷ 0 ∷ 0 ∷ []
-
-pub needs-at : (k : ℕ) → getD needsSets k 0 ≡ needs k
-unfolding needs placed with union
-needs-at = at-place placed refl _ needsTable refl
 
 -- ---- no set has bits beyond a width
 abbrev pub every : ℕ → List ℕ → Bool

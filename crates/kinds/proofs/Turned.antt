@@ -18,9 +18,9 @@ use Rattle.sets.specs.Set.{has, with, numbered}
 use Rattle.sets.proofs.Members.{has-pick, has-none, has-above, has-with-same, has-with-other}
 use Rattle.sets.proofs.Bounds.{with-lt}
 use Rattle.sets.proofs.Switches.{numbered-is}
-use Rattle.kinds.specs.Kinds.{applicationCount, kindCount, appCount, capabilityCount, knownApplication, isIn, sessionProtection, opensTable, setOf, opens, controlled, needed}
-use Rattle.kinds.specs.ByKind.{openersAlways, openers, controllers, needs, LayoutsAgree, AppLayoutsAgree, CapabilityLayoutsAgree}
-use Rattle.kinds.proofs.Table.{opensSets, opens-at, controlsSets, controls-at, neededSets, needed-at, openersSets, openers-at, controllersSets, controllers-at, needsSets, needs-at, every, every-lt}
+use Rattle.kinds.specs.Kinds.{applicationCount, kindCount, appCount, knownApplication, isIn, sessionProtection, opensTable, setOf, opens, controlled}
+use Rattle.kinds.specs.ByKind.{openersAlways, openers, controllers, LayoutsAgree, AppLayoutsAgree}
+use Rattle.kinds.proofs.Table.{opensSets, opens-at, controlsSets, controls-at, openersSets, openers-at, controllersSets, controllers-at, every, every-lt}
 
 -- ---- a test at every place
 abbrev all : ℕ → (ℕ → Bool) → Bool
@@ -128,17 +128,3 @@ unfolding controlled
 app-layouts-agree n k =
     where-numbered appCount n _ (controllers k) k
     (λ _. ap (λ (s : ℕ). has s k) (sym (controls-at (n - 1))) ∙ controllers-turned (n - 1) k ∙ ap (λ (s : ℕ). has s (n - 1)) (controllers-at k))
-
--- ---- capabilities
-needs-turned : (i k : ℕ) → has (getD neededSets i 0) k ≡ has (getD needsSets k 0) i
-unfolding has
-needs-turned = turned capabilityCount kindCount neededSets needsSets refl (le-refl _) (le-refl _) tt tt
-
-pub needs-lt : (k : ℕ) → needs k < 2 ^ capabilityCount
-needs-lt k = rw (← needs-at k) (every-lt (2 ^ capabilityCount) needsSets tt (lit< tt) k)
-
-pub capability-layouts-agree : CapabilityLayoutsAgree
-unfolding needed
-capability-layouts-agree n k =
-    where-numbered capabilityCount n _ (needs k) k
-    (λ _. ap (λ (s : ℕ). has s k) (sym (needed-at (n - 1))) ∙ needs-turned (n - 1) k ∙ ap (λ (s : ℕ). has s (n - 1)) (needs-at k))

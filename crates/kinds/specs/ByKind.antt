@@ -1,5 +1,5 @@
--- The tables of Kinds.antt turned round: "for each kind, the set of applications that open it, with Session Protection added from the session", the
--- Apps that control it, and the capabilities that it needs. These are what the code reads; which kinds a number stands for is right as Kinds.antt has it, and the two layouts
+-- The tables of Kinds.antt turned round: "for each kind, the set of applications that open it, with Session Protection added from the session", and the
+-- Apps that control it. These are what the code reads; which kinds a number stands for is right as Kinds.antt has it, and the two layouts
 -- agree. Assumes nothing.
 use Prim.Native.Nat.{ℕ, _-_}
 use mathlib.Core.Path.{_≡_}
@@ -8,7 +8,7 @@ use mathlib.Core.List.{List, [], _∷_}
 use lib.ListN.{getD}
 use Rattle.choice.specs.Pick.{pick}
 use Rattle.sets.specs.Set.{has, with, meets, numbered, chosen}
-use Rattle.kinds.specs.Kinds.{kindCount, appCount, capabilityCount, p2mp, mp2mp, hsmp, isIn, sessionProtection, opens, controlled, needed}
+use Rattle.kinds.specs.Kinds.{kindCount, appCount, isIn, sessionProtection, opens, controlled}
 
 -- the applications that open each kind in every session, from kind 0 on
 abbrev pub openersTable : List (List ℕ)
@@ -29,21 +29,6 @@ openersTable =
 abbrev pub controllersTable : List (List ℕ)
 controllersTable = (1 ∷ []) ∷ (2 ∷ []) ∷ [] ∷ [] ∷ [] ∷ [] ∷ [] ∷ (3 ∷ []) ∷ (4 ∷ []) ∷ [] ∷ []
 
--- the capabilities that each kind needs
-abbrev pub needsTable : List (List ℕ)
-needsTable =
-    []  -- 0 IPv4 prefix
-    ∷ []  -- 1 IPv6 prefix
-    ∷ (p2mp ∷ [])  -- 2 P2MP
-    ∷ (mp2mp ∷ [])  -- 3 MP2MP-up
-    ∷ (mp2mp ∷ [])  -- 4 MP2MP-down
-    ∷ (hsmp ∷ [])  -- 5 HSMP-downstream
-    ∷ (hsmp ∷ [])  -- 6 HSMP-upstream
-    ∷ []  -- 7 PWid
-    ∷ []  -- 8 Generalized PWid
-    ∷ []  -- 9 P2MP PW Upstream
-    ∷ []
-
 -- these numbers as a set, each at the place one below it
 unfoldable pub placed : List ℕ → ℕ
 placed [] = 0
@@ -60,10 +45,6 @@ openers protects k = pick (has protects k) (with (openersAlways k) (sessionProte
 unfoldable pub controllers : ℕ → ℕ
 controllers k = placed (getD controllersTable k [])
 
--- the capabilities that the kind k needs
-unfoldable pub needs : ℕ → ℕ
-needs k = placed (getD needsTable k [])
-
 -- by a table of such sets: whether these members stand for the nth kind, and the kinds that they stand for
 abbrev pub standFor : List ℕ → ℕ → ℕ → Bool
 standFor table members n = meets members (getD table (n - 1) 0)
@@ -78,7 +59,3 @@ LayoutsAgree = (n k protects : ℕ) → has (opens protects n) k ≡ isIn (opene
 -- and for every App and kind
 abbrev pub AppLayoutsAgree : Type 0
 AppLayoutsAgree = (n k : ℕ) → has (controlled n) k ≡ numbered appCount n && has (controllers k) (n - 1)
-
--- and for every capability and kind
-abbrev pub CapabilityLayoutsAgree : Type 0
-CapabilityLayoutsAgree = (n k : ℕ) → has (needed n) k ≡ numbered capabilityCount n && has (needs k) (n - 1)

@@ -1,8 +1,8 @@
 // Applications and kinds: the kinds that targeted applications open, those that SAC Apps control, and those that need a capability.
 ghost use mathlib.Core.Path.{_≡_};
 ghost use lib.ListN.{getD};
-ghost use Rattle.sets.specs.Set.{has, minus, holds, switched};
-ghost use Rattle.kinds.specs.Kinds.{applicationCount, appCount, knownApplication, isIn, knownApp, capabilityCount, allCapabilities, opened, disables, barred};
+ghost use Rattle.sets.specs.Set.{has, holds, switched};
+ghost use Rattle.kinds.specs.Kinds.{applicationCount, appCount, knownApplication, isIn, knownApp, capabilityCount, opened, disables, barred};
 ghost use Rattle.kinds.specs.ByKind.{openers, kindsBy};
 
 // A targeted application by its number, as TAC has it.
@@ -19,7 +19,7 @@ pub const KIND_COUNT: u32 = 10;
 
 pub const ALL_KINDS: u16 = (1 << KIND_COUNT) - 1;
 
-// A table has a set of applications, of Apps or of capabilities for each kind, from kind 0 on. In it the number n stands at bit n - 1.
+// A table has a set of applications or of Apps for each kind, from kind 0 on. In it the number n stands at bit n - 1.
 const KINDS: usize = KIND_COUNT as usize;
 
 // 1 LDPv4 Tunneling, 4 LDPv4 Remote LFA, 12 IPv4 intra-area FECs.
@@ -48,18 +48,23 @@ const OPENERS: [u16; KINDS] = [
 // The Apps that control each kind: App 1 kind 0, 2 kind 1, 3 kind 7, 4 kind 8.
 const CONTROLLERS: [u16; KINDS] = [1 << 0, 1 << 1, 0, 0, 0, 0, 0, 1 << 2, 1 << 3, 0];
 
-// The capabilities that each kind needs: kind 2 P2MP, kinds 3 and 4 MP2MP, kinds 5 and 6 HSMP.
-const NEEDS: [u16; KINDS] = [
-    0,
-    0,
-    1 << (Capability::P2MP - 1),
-    1 << (Capability::MP2MP - 1),
-    1 << (Capability::MP2MP - 1),
-    1 << (Capability::HSMP - 1),
-    1 << (Capability::HSMP - 1),
-    0,
-    0,
-    0,
+// The kinds that need each capability.
+const NEED_P2MP: u16 = 1 << 2;
+
+const NEED_MP2MP: u16 = (1 << 3) + (1 << 4);
+
+const NEED_HSMP: u16 = (1 << 5) + (1 << 6);
+
+// The kinds that need a capability which is not held, by the set of those that are.
+const BARRED: [u16; Capability::SETS] = [
+    NEED_P2MP + NEED_MP2MP + NEED_HSMP, // none
+    NEED_MP2MP + NEED_HSMP, // P2MP
+    NEED_P2MP + NEED_HSMP, // MP2MP
+    NEED_HSMP, // P2MP, MP2MP
+    NEED_P2MP + NEED_MP2MP, // HSMP
+    NEED_MP2MP, // P2MP, HSMP
+    NEED_P2MP, // MP2MP, HSMP
+    0, // all three
 ];
 
 impl TaId {
@@ -127,7 +132,9 @@ impl Capability {
 
     pub const COUNT: u32 = 3;
 
-    // The set of all of them, capability n at bit n - 1.
+    // How many sets of them there are, and the set of all of them, capability n at bit n - 1.
+    const SETS: usize = 1 << Self::COUNT;
+
     const ALL: u16 = (1 << Self::COUNT) - 1;
 
     // Whether the capability is in the set.
@@ -211,23 +218,17 @@ pub fn disables(apps: u8) -> u16
     kinds_by(CONTROLLERS, apps as u16)
 }
 
-// The capabilities that are not held.
-fn lacked(held: u8) -> u16
-    ensures { λ r. ⌜ r ≡ minus allCapabilities held ⌝ }
-{
-    sets::minus(Capability::ALL, held as u16)
-}
-
-// Whether this one kind needs a capability that is not held.
-pub fn bars_kind(held: u8, kind: u16) -> bool
-    ensures { λ r. ⌜ r ≡ has (barred held) kind ⌝ }
-{
-    sets::meets(lacked(held), at(NEEDS, kind))
-}
-
 // The kinds that need a capability that is not held.
 pub fn barred(held: u8) -> u16
     ensures { λ r. ⌜ r ≡ barred held ⌝ }
 {
-    kinds_by(NEEDS, lacked(held))
+    let known = sets::common(Capability::ALL, held as u16);
+    BARRED[known as usize]
+}
+
+// Whether this one kind does.
+pub fn bars_kind(held: u8, kind: u16) -> bool
+    ensures { λ r. ⌜ r ≡ has (barred held) kind ⌝ }
+{
+    sets::has(barred(held), kind)
 }

@@ -1,5 +1,5 @@
 -- All that is promised of sessions, records and rows beyond what each function ensures, and all laws that docs/PROMISES.md cites. Assumes nothing.
-use Rattle.kinds.specs.ByKind.{LayoutsAgree, AppLayoutsAgree, CapabilityLayoutsAgree}
+use Rattle.kinds.specs.ByKind.{LayoutsAgree, AppLayoutsAgree}
 use Rattle.area.specs.Parts.{PartsInside, NothingAfterRefusal}
 use Rattle.area.specs.Tlvs.{ReadByTlvs}
 use Rattle.lists.specs.Tac.{FirstDecides, AbsentStays, ListedIsPresent, UnknownIsSkipped}
@@ -33,7 +33,6 @@ pub record Promises : Type 0 where
   -- applications and kinds
   pub layouts-agree : LayoutsAgree
   pub app-layouts-agree : AppLayoutsAgree
-  pub capability-layouts-agree : CapabilityLayoutsAgree
   -- reading, and lists
   pub parts-inside : PartsInside
   pub nothing-after-refusal : NothingAfterRefusal

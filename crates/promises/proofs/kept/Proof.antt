@@ -1,5 +1,5 @@
 -- `promises::kept` meets its contract: each promise by its theorem. Assumes nothing.
-use Rattle.kinds.proofs.Turned.{layouts-agree, app-layouts-agree, capability-layouts-agree}
+use Rattle.kinds.proofs.Turned.{layouts-agree, app-layouts-agree}
 use Rattle.area.proofs.Parts.{parts-inside, nothing-after-refusal}
 use Rattle.area.proofs.Tlvs.{read-by-tlvs}
 use Rattle.lists.proofs.First.{first-decides, absent-stays, listed-is-present, unknown-is-skipped, met-is-stood, unknown-is-not-met, met-fits}
@@ -34,7 +34,6 @@ returns c =
     record {
       layouts-agree = layouts-agree;
       app-layouts-agree = app-layouts-agree;
-      capability-layouts-agree = capability-layouts-agree;
       parts-inside = parts-inside;
       nothing-after-refusal = nothing-after-refusal;
       read-by-tlvs = read-by-tlvs;
