@@ -99,17 +99,16 @@ impl Session {
         }
     }
 
-    // From this session to the one after the event, whatever they permit.
-    fn answered(self, after: Session, outcome: u8, written: u16) -> After
-        ensures { λ r. ⌜ r ≡ answered self after outcome written ⌝ }
+    // From this session to the one after the event, whatever they permit: told what each does. Whoever asks computes that itself, so that it is put in place.
+    fn moved(self, had: u16, after: Session, has: u16, written: u16) -> After
+        requires { ⌜ (had ≡ permitted self) × (has ≡ permitted after) ⌝ }
+        ensures { λ r. ⌜ r ≡ answered self after outcomeDone written ⌝ }
     {
-        let had = self.permitted();
-        let has = after.permitted();
         After {
             session: after,
             answer: Answer {
                 refusal: refusals::NOT_REFUSED,
-                outcome,
+                outcome: Self::DONE,
                 lost: sets::minus(had, has),
                 gained: sets::minus(has, had),
                 written,
@@ -121,7 +120,9 @@ impl Session {
     pub(crate) fn done(self, after: Session) -> After
         ensures { λ r. ⌜ r ≡ settled self (Done after) ⌝ }
     {
-        self.answered(after, Self::DONE, 0)
+        let had = self.permitted();
+        let has = after.permitted();
+        self.moved(had, after, has, 0)
     }
 
     // To what a mismatch leaves of a session.
@@ -175,7 +176,10 @@ impl Session {
             if after.negotiated() == 0 {
                 return self.as_mismatch(after);
             }
-            return self.answered(after.with_next_number(), Self::DONE, written);
+            let next = after.with_next_number();
+            let had = self.permitted();
+            let has = next.permitted();
+            return self.moved(had, next, has, written);
         }
         self.unmoved(after.with_next_number(), Self::DONE, written)
     }

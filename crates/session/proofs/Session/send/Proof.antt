@@ -15,7 +15,7 @@ returns c = simp (sym (c .before .before .before .before .in-force .ensures) ∙
 
 returns-2 : tie.Need-returns-2
 unfolding settled nothingCommon empty
-returns-2 c = simp (sym (c .before .before .before .before .before .in-force .ensures) ∙ c .before .before .before .before .if1 .taken, ne-eqb _ _ (rw (c .before .before .before .negotiated .ensures) at (c .before .before .if2 .left)), c .answered .ensures, c .before .with-next-number .ensures, pick-false)
+returns-2 c = simp (sym (c .before .before .before .before .before .before .before .in-force .ensures) ∙ c .before .before .before .before .before .before .if1 .taken, ne-eqb _ _ (rw (c .before .before .before .before .before .negotiated .ensures) at (c .before .before .before .before .if2 .left)), c .moved .ensures, c .before .before .before .with-next-number .ensures, pick-false)
 
 unmoved-requires : tie.Need-unmoved-requires
 unfolding permitted permittedByBase
@@ -30,5 +30,5 @@ send-spec =
     tie.close
     (tie.spec
     (λ c κs. search needs) (λ c κs. search needs) (λ c κs. search needs) returns
-    (λ c κs. search needs) (λ c κs. search needs) returns-2
+    (λ c κs. search needs) (λ c κs. search needs) (λ c κs. search needs) (λ c κs. (c .before .permitted .ensures, c .permitted2 .ensures)) returns-2
     (λ c κs. search needs) unmoved-requires returns-3)
