@@ -4,3 +4,4 @@ pub mod Parts
 pub mod Tlvs
 pub mod Examples
 pub mod Slots
+pub mod Told

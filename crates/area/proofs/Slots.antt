@@ -85,7 +85,7 @@ value-of before t rest =
 
 -- ---- what is read from an area
 -- one that is not refused is not too long
-short : (a : List ℕ) → readArea a .refusal ≡ notRefused → length a ≤ areaMost
+pub short : (a : List ℕ) → readArea a .refusal ≡ notRefused → length a ≤ areaMost
 unfolding readArea
 short a =
     by-test (λ (z : Reading). z .refusal ≡ notRefused → length a ≤ areaMost) (λ _ e. absurd (omega arith)) (λ q _. ltb-false areaMost (length a) q)

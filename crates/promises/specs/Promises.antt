@@ -1,7 +1,7 @@
 -- All that is promised of sessions, records and rows beyond what each function ensures, and all laws that docs/PROMISES.md cites. Assumes nothing.
 use Rattle.kinds.specs.ByKind.{LayoutsAgree, AppLayoutsAgree}
 use Rattle.area.specs.Parts.{PartsInside, NothingAfterRefusal}
-use Rattle.area.specs.Tlvs.{ReadByTlvs}
+use Rattle.area.specs.Tlvs.{ReadByTlvs, CapabilitiesFound}
 use Rattle.lists.specs.Tac.{FirstDecides, AbsentStays, ListedIsPresent, UnknownIsSkipped}
 use Rattle.lists.specs.Met.{MetIsStood, UnknownIsNotMet, MetFits}
 use Rattle.lists.specs.Sac.{LaterHolds, IdleStays}
@@ -37,6 +37,7 @@ pub record Promises : Type 0 where
   pub parts-inside : PartsInside
   pub nothing-after-refusal : NothingAfterRefusal
   pub read-by-tlvs : ReadByTlvs
+  pub capabilities-found : CapabilitiesFound
   pub first-decides : FirstDecides
   pub absent-stays : AbsentStays
   pub listed-is-present : ListedIsPresent

@@ -2,6 +2,7 @@
 use Rattle.kinds.proofs.Turned.{layouts-agree, app-layouts-agree}
 use Rattle.area.proofs.Parts.{parts-inside, nothing-after-refusal}
 use Rattle.area.proofs.Tlvs.{read-by-tlvs}
+use Rattle.area.proofs.Told.{capabilities-found}
 use Rattle.lists.proofs.First.{first-decides, absent-stays, listed-is-present, unknown-is-skipped, met-is-stood, unknown-is-not-met, met-fits}
 use Rattle.lists.proofs.Later.{later-holds, idle-stays}
 use Rattle.session.proofs.SoundMeans as sound
@@ -37,6 +38,7 @@ returns c =
       parts-inside = parts-inside;
       nothing-after-refusal = nothing-after-refusal;
       read-by-tlvs = read-by-tlvs;
+      capabilities-found = capabilities-found;
       first-decides = first-decides;
       absent-stays = absent-stays;
       listed-is-present = listed-is-present;
