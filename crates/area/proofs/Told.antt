@@ -11,7 +11,7 @@ use lib.ListN.{length}
 use borrow.Author.Tests.{eqb-true, eqb-false, eq-eqb, ne-eqb}
 use Rattle.choice.specs.Pick.{pick}
 use Rattle.choice.proofs.Branch.{by-test, pick-true, pick-false}
-use Rattle.sets.specs.Set.{has, switched}
+use Rattle.sets.specs.Set.{has}
 use Rattle.sets.proofs.Members.{has-none}
 use Rattle.sets.proofs.Switches.{switched-same, switched-other}
 use Rattle.refusals.specs.Refusals.{notRefused}

@@ -2,18 +2,16 @@
 -- event, and induction over the events. Assumes nothing.
 use Prim.Native.Nat.{ℕ}
 use mathlib.Core.Path.{_≡_, refl, sym, ap, _∙_}
-use mathlib.Core.Bool.{Bool, true, false, true≢false}
+use mathlib.Core.Bool.{true, false}
 use mathlib.Core.List.{List, [], _∷_}
 use lib.Dec.{eqb}
 use borrow.Author.Tests.{eqb-true}
 use Rattle.choice.specs.Pick.{pick}
-use Rattle.choice.proofs.Branch.{taken, left, pick-both}
+use Rattle.choice.proofs.Branch.{taken, left}
 use Rattle.refusals.specs.Refusals.{notRefused, wrongState}
-use Rattle.area.specs.Area.{readArea}
 use Rattle.session.specs.declared.Session.{Session}
 use Rattle.session.specs.declared.After.{After}
-use Rattle.session.specs.Session.{stateReady, stateOpen, isReady, isOpen, sound, Sound}
-use Rattle.session.specs.Capabilities.{theirsAtOpening}
+use Rattle.session.specs.Session.{stateReady, stateOpen, isReady, isOpen, Sound}
 use Rattle.session.specs.Decisions.{answered, settled}
 use Rattle.session.specs.Events.{afterInitialization, onInitialization, onClosed, Event, Initialization, Capability, LocalChange, Wish, Mismatch, Hello, Closed, Unknown, step, run}
 use Rattle.session.proofs.SoundMeans.{sound-means, means-sound}

@@ -2,7 +2,7 @@
 -- refuses. Assumes nothing.
 use Prim.Native.Nat.{ℕ}
 use mathlib.Core.Path.{_≡_}
-use mathlib.Core.Bool.{true, false}
+use mathlib.Core.Bool.{true}
 use mathlib.Core.List.{List, [], _∷_, _++_}
 use Rattle.area.specs.Area.{readArea}
 use Rattle.session.specs.declared.Session.{Session}

@@ -2,12 +2,12 @@
 -- barred. And a message that tells of none changes none. Assumes nothing.
 use Prim.Native.Nat.{ℕ}
 use mathlib.Core.Path.{_≡_, refl, sym, ap, ap₂, _∙_}
-use mathlib.Core.Bool.{Bool, true, false, not, _&&_, true≢false}
+use mathlib.Core.Bool.{Bool, true, false, not, true≢false}
 use Rattle.choice.proofs.Tests.{and-first, and-second, and-both, not-false}
 use Rattle.sets.specs.Set.{has, common, union, minus, Within}
 use Rattle.sets.proofs.Members.{has-common, has-minus, union-none}
 use Rattle.sets.proofs.Subsets.{all-left}
-use Rattle.kinds.specs.Kinds.{allCapabilities, barred}
+use Rattle.kinds.specs.Kinds.{barred}
 use Rattle.kinds.proofs.Capable.{barred-within, barred-none}
 use Rattle.area.specs.declared.Reading.{Reading}
 use Rattle.session.specs.declared.Session.{Session}

@@ -9,7 +9,7 @@ use Rattle.choice.proofs.Branch.{taken, left}
 use Rattle.choice.proofs.Tests.{and-first, and-second, and-both, not-false}
 use Rattle.sets.specs.Set.{has}
 use Rattle.sets.proofs.Members.{has-common, has-minus, has-none, has-lt, has-all}
-use Rattle.kinds.specs.Kinds.{applicationCount, kindCount, capabilityCount, allKinds, opens, needed, opened, disables, barred, Some}
+use Rattle.kinds.specs.Kinds.{applicationCount, kindCount, allKinds, opens, opened, disables, barred, Some}
 use Rattle.kinds.proofs.Table.{opens-lt}
 use Rattle.kinds.proofs.Capable.{unbarred-has, has-unbarred}
 use Rattle.kinds.proofs.Gathered.{gather-lt, opened-some, some-opened, disables-some, some-disables}
