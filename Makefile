@@ -111,7 +111,7 @@ mutants: $(library)
 few := area-3-before-5 tac-by-position permitted-despite-sac change-9-not-asked at-limit-never wish-7-before-unchanged \
        capability-theirs-alone record-lists-swapped row-another-touched total-66-losing-taken library-writes-behind
 mutants-few: $(library)
-	@$(here) tests/mutants/run --calls 100000 --seed $(SEED) $(few)
+	@$(here) tests/mutants/run --calls 200000 --seed $(SEED) $(few)
 
 documents:
 	@tests/documents/run
