@@ -7,10 +7,10 @@ use Prim.Native.Nat.{ℕ, zero, suc, _-_, _^_, _<_, _≤_}
 use native.Mathlib.Omega.{arith}
 use lib.ListN.{getD}
 use Rattle.choice.specs.Pick.{pick}
-use Rattle.choice.proofs.Tests.{and-first, and-second, and-both, not-false}
+use Rattle.choice.proofs.Tests.{not-false}
 use Rattle.sets.specs.Set.{has, common, union, minus, with, numbered, Within}
 use Rattle.sets.proofs.Members.{has-common, has-minus, has-all}
-use Rattle.sets.proofs.Subsets.{same-members}
+use Rattle.sets.proofs.Subsets.{within-less, same-members}
 use Rattle.kinds.specs.Kinds.{capabilityCount, allCapabilities, setOf, needed, gather, barred, Some, Lacking}
 use Rattle.kinds.proofs.Gathered.{gather-some, some-gather, gather-within}
 
@@ -68,14 +68,7 @@ module _ (held k : ℕ) where
 -- a larger set bars no more
 pub barred-within : (a b : ℕ) → Within a b → Within (barred b) (barred a)
 unfolding barred
-barred-within a b f = gather-within needed capabilityCount (lacked b) (lacked a) (λ k h. fewer k (sym (has-minus allCapabilities b k) ∙ h))
-  where
-    fewer : (k : ℕ) → has allCapabilities k && not (has b k) ≡ true → has (lacked a) k ≡ true
-    fewer k h = has-minus allCapabilities a k ∙ and-both _ _ (and-first (has allCapabilities k) _ h) (go (has a k) refl)
-      where
-        go : (x : Bool) → has a k ≡ x → not (has a k) ≡ true
-        go false e = ap not e
-        go true e = absurd (true≢false (sym (f k e) ∙ not-false _ (and-second (has allCapabilities k) _ h)))
+barred-within a b f = gather-within needed capabilityCount (lacked b) (lacked a) (within-less allCapabilities a b f)
 
 -- of other bits than theirs nothing is asked
 known-lacked : (held : ℕ) → lacked (common allCapabilities held) ≡ lacked held

@@ -8,6 +8,7 @@ use native.Mathlib.Omega.{arith}
 use lib.Dec.{lit<}
 use lib.Pow.{pow-mono}
 use borrow.Author.Tests.{eqb-true, eq-eqb}
+use Rattle.choice.proofs.Tests.{and-first, and-second, and-both, not-false}
 use Rattle.sets.specs.Set.{has, common, union, minus, empty, within, Within}
 use Rattle.sets.proofs.Members.{has-common, has-union, has-minus, has-none, ext}
 
@@ -17,21 +18,23 @@ within-self a k h = h
 pub within-none : (a : ℕ) → Within 0 a
 within-none a k h = absurd (true≢false (sym h ∙ has-none k))
 
--- an operation that keeps `true` in its first place keeps subsets
-module _ (op : ℕ → ℕ → ℕ) (f : Bool → Bool → Bool) (has-op : (a b k : ℕ) → has (op a b) k ≡ f (has a k) (has b k))
-    (off : (y : Bool) → f false y ≡ true → ⊥) where
-  within-op : (a b c : ℕ) → Within a b → Within (op a c) (op b c)
-  within-op a b c h k q = has-op b c k ∙ go (has a k) refl (sym (has-op a c k) ∙ q)
-    where
-      go : (x : Bool) → has a k ≡ x → f x (has c k) ≡ true → f (has b k) (has c k) ≡ true
-      go true e p = rw (h k e) p
-      go false e p = absurd (off (has c k) p)
+pub within-commons : (a b c d : ℕ) → Within a c → Within b d → Within (common a b) (common c d)
+within-commons a b c d f g k h =
+    let both = sym (has-common a b k) ∙ h in
+    has-common c d k ∙ and-both _ _ (f k (and-first (has a k) _ both)) (g k (and-second (has a k) _ both))
 
 pub within-common : (a b c : ℕ) → Within a b → Within (common a c) (common b c)
-within-common = within-op common _&&_ has-common (λ y e. true≢false (sym e))
+within-common a b c f = within-commons a c b c f (within-self c)
 
-pub within-minus : (a b c : ℕ) → Within a b → Within (minus a c) (minus b c)
-within-minus = within-op minus (λ x y. x && not y) has-minus (λ y e. true≢false (sym e))
+-- where less is taken away, more is left
+pub within-less : (a b c : ℕ) → Within b c → Within (minus a c) (minus a b)
+within-less a b c f k h =
+    let both = sym (has-minus a c k) ∙ h in
+    has-minus a b k ∙ and-both _ _ (and-first (has a k) _ both) (go (not-false _ (and-second (has a k) _ both)) (has b k) refl)
+  where
+    go : has c k ≡ false → (x : Bool) → has b k ≡ x → not (has b k) ≡ true
+    go out false e = ap not e
+    go out true e = absurd (true≢false (sym (f k e) ∙ out))
 
 pub within-union : (a b c d : ℕ) → Within a c → Within b d → Within (union a b) (union c d)
 within-union a b c d f g k h = has-union c d k ∙ go (has a k) refl (sym (has-union a b k) ∙ h)
