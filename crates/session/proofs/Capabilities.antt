@@ -12,6 +12,7 @@ use Rattle.session.specs.declared.Session.{Session}
 use Rattle.session.specs.Session.{held, permittedByBase, permitted}
 use Rattle.session.specs.With.{withOurs, withTheirs}
 use Rattle.session.specs.Capabilities.{theirsAfter, AllHeldIsBase, HoldingMore}
+use Rattle.session.proofs.PermittedMeans.{permitted-is}
 
 -- a message without any leaves the peer's as they are
 pub untold : (theirs : ℕ) (r : Reading) → r .capabilities ≡ 0 → r .holding ≡ 0 → theirsAfter theirs r ≡ theirs
@@ -20,15 +21,17 @@ untold theirs r absent none =
     ap₂ (λ (present held : ℕ). union (minus theirs present) held) absent none ∙ union-none (minus theirs 0) ∙ all-left theirs
 
 pub all-held-is-base : AllHeldIsBase
-unfolding permitted common
+unfolding common
 all-held-is-base s ours theirs =
-    ap (λ (both : ℕ). minus (permittedByBase s) (barred both)) (ap₂ common ours theirs)
+    permitted-is s
+    ∙ ap (λ (both : ℕ). minus (permittedByBase s) (barred both)) (ap₂ common ours theirs)
     ∙ ap (minus (permittedByBase s)) barred-none
     ∙ all-left (permittedByBase s)
 
 pub holding-more : HoldingMore
-unfolding permitted permittedByBase
+unfolding permittedByBase
 holding-more s ours theirs f g =
     let t : Session = withTheirs (withOurs s ours) theirs in
-    within-less (permittedByBase s) (barred (held t)) (barred (held s))
-    (barred-within (held s) (held t) (within-commons (s .ours) (s .theirs) ours theirs f g))
+    rw (permitted-is s, permitted-is t)
+    (within-less (permittedByBase s) (barred (held t)) (barred (held s))
+    (barred-within (held s) (held t) (within-commons (s .ours) (s .theirs) ours theirs f g)))

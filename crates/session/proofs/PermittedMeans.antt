@@ -7,7 +7,7 @@ use lib.Dec.{lit<}
 use Rattle.choice.specs.Pick.{pick}
 use Rattle.choice.proofs.Branch.{taken, left}
 use Rattle.choice.proofs.Tests.{and-first, and-second, and-both, not-false}
-use Rattle.sets.specs.Set.{has}
+use Rattle.sets.specs.Set.{has, minus}
 use Rattle.sets.proofs.Members.{has-common, has-minus, has-none, has-lt, has-all}
 use Rattle.kinds.specs.Kinds.{applicationCount, kindCount, allKinds, opens, opened, disables, barred, Some}
 use Rattle.kinds.proofs.Table.{opens-lt}
@@ -19,6 +19,11 @@ use Rattle.session.specs.Session.{isOpen, inForce, negotiated, held, Sou
 -- no other number than a kind's in a set of kinds
 pub kind-of : (a k : ℕ) → a < 2 ^ kindCount → has a k ≡ true → k < kindCount
 kind-of = has-lt kindCount
+
+-- what the base permitted, without what is barred by the capabilities that both hold
+pub permitted-is : (s : Session) → permitted s ≡ minus (permittedByBase s) (barred (held s))
+unfolding permitted
+permitted-is s = refl
 
 module _ (s : Session) (k : ℕ) where
   -- an application of the common set is both enabled and listed
@@ -64,8 +69,7 @@ module _ (s : Session) (k : ℕ) where
 
   -- the base, and no capability in the way
   pub by-base : has (permitted s) k ≡ (has (permittedByBase s) k && not (has (barred (held s)) k))
-  unfolding permitted
-  by-base = has-minus (permittedByBase s) (barred (held s)) k
+  by-base = ap (λ (p : ℕ). has p k) (permitted-is s) ∙ has-minus (permittedByBase s) (barred (held s)) k
 
   -- one kind, as it is asked
   base-shut : isOpen s ≡ false → has (permittedByBase s) k ≡ false
