@@ -1,13 +1,15 @@
-// The stored record, 22 octets, with the capabilities of both ends in two octets beside it, and the session that they hold.
+// The stored record of kind 2, and the session that it holds; the kind before it is in moves.rt.
 ghost use mathlib.Core.Path.{_≡_};
 ghost use Prim.Native.Nat.{_≤_};
 ghost use lib.ListN.{length};
 ghost use Rattle.record.specs.Carried.{Carried};
 ghost use Rattle.record.specs.Loaded.{load, storeRefusal, storeOctets};
-ghost use Rattle.record.specs.Record.{recordLength, encoded, storedIn, headed, fields, decoded};
+ghost use Rattle.record.specs.Record.{kind1Length, encoded, storedIn, headed, fields, decoded};
 use session::After;
 use session::Answer;
 use session::Session;
+
+pub mod moves;
 
 // A session read from a record.
 #[repr(C)]
@@ -16,18 +18,22 @@ pub struct Loaded {
     pub session: Session,
 }
 
-// How many octets a record has, with the two beside it.
+// What a move forward answers.
+#[repr(C)]
+pub struct Moved {
+    pub refusal: u8,
+    pub lost: u16,
+}
+
+// How many octets a record has.
 pub const LENGTH: usize = 24;
 
 // What the first two fields of a record hold.
-const LENGTH_FIELD: u16 = 20;
+const LENGTH_FIELD: u16 = 22;
 
-const KIND_FIELD: u16 = 1;
+const KIND_FIELD: u16 = 2;
 
-// The two as one number, the length field in its low half.
-const HEAD: u32 = LENGTH_FIELD as u32 + 65536 * KIND_FIELD as u32;
-
-fn encoded(s: Session) -> [u8; LENGTH]
+pub(crate) fn encoded(s: Session) -> [u8; LENGTH]
     ensures { λ r. ⌜ r ≡ encoded s ⌝ }
 {
     let enabled = s.enabled;
@@ -74,17 +80,19 @@ pub fn stored_in(s: Session, lent: &mut [u8])
     octets::put(lent, &octets);
 }
 
-// Length, kind and the zero octet as they must be.
-fn headed(lent: &[u8]) -> bool
-    requires { ⌜ recordLength ≤ length (now lent) ⌝ }
-    ensures { λ r. ⌜ r ≡ headed (now (lent .entry)) ⌝ }
+// Length, kind and the zero octet as they must be. The two fields are read as one number, the length in its low half.
+pub(crate) fn headed(lent: &[u8], long: u16, kind: u16) -> bool
+    requires { ⌜ kind1Length ≤ length (now lent) ⌝ }
+    ensures { λ r. ⌜ r ≡ headed long kind (now (lent .entry)) ⌝ }
 {
-    (octets::read32(lent, 0) == HEAD) & (lent[13] == 0)
+    let head = long as u32 + 65536 * (kind as u32);
+    (octets::read32(lent, 0) == head) & (lent[13] == 0)
 }
 
-fn fields(lent: &[u8]) -> Session
-    requires { ⌜ recordLength ≤ length (now lent) ⌝ }
-    ensures { λ r. ⌜ r ≡ fields (now (lent .entry)) ⌝ }
+// The fields that both kinds have, with the capabilities of both ends.
+pub(crate) fn fields(lent: &[u8], ours: u8, theirs: u8) -> Session
+    requires { ⌜ kind1Length ≤ length (now lent) ⌝ }
+    ensures { λ r. ⌜ r ≡ fields (now (lent .entry)) ours theirs ⌝ }
 {
     let enabled = octets::read16(lent, 6);
     let listed = octets::read16(lent, 8);
@@ -98,8 +106,8 @@ fn fields(lent: &[u8]) -> Session
         enabled,
         listed,
         protects,
-        ours: lent[22],
-        theirs: lent[23],
+        ours,
+        theirs,
         hello,
         next,
     }
@@ -110,8 +118,8 @@ pub fn decoded(lent: &[u8]) -> Session
     ensures { λ r. ⌜ r ≡ decoded (now (lent .entry)) ⌝ }
 {
     if lent.len() == LENGTH {
-        if headed(lent) {
-            return fields(lent);
+        if headed(lent, LENGTH_FIELD, KIND_FIELD) {
+            return fields(lent, lent[22], lent[23]);
         }
         return Session::none();
     }

@@ -53,6 +53,10 @@ outsideRow = 11
 abbrev pub limitTooHigh : ℕ
 limitTooHigh = 12
 
+-- L5: "13, way back with either octet not 0, after 10"
+abbrev pub capabilitiesHeld : ℕ
+capabilitiesHeld = 13
+
 -- L2: "15, App outside 1 to 4"
 abbrev pub unknownApp : ℕ
 unknownApp = 15

@@ -25,6 +25,8 @@ pub const OUTSIDE_ROW: u8 = 11;
 
 pub const LIMIT_TOO_HIGH: u8 = 12;
 
+pub const CAPABILITIES_HELD: u8 = 13;
+
 pub const UNKNOWN_APP: u8 = 15;
 
 pub const TOTAL_OUTSIDE: u8 = 16;

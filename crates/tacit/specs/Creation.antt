@@ -12,7 +12,7 @@ use Rattle.session.specs.declared.Created.the-variants.{Fresh, Refused}
 use Rattle.session.specs.Creation.{refusalOf}
 use Rattle.record.specs.Record.{recordLength, storedIn}
 
--- ---- creation: 10, "the room for a new one is not of its size", which is 24 octets by L4, then 6
+-- ---- creation: 10, "the room for a new one is not of its size", which is 24 octets by L5, then 6
 unfoldable pub creationRefusal : Created → List ℕ → ℕ
 creationRefusal c l = pick (eqb (length l) recordLength) (refusalOf c) notSound
 

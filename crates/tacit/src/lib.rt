@@ -12,6 +12,7 @@ ghost use Rattle.session.specs.Questions.{permittedKinds, permission, whyNot, r
 ghost use Rattle.record.specs.Record.{decoded};
 ghost use Rattle.record.specs.Carried.{Carried};
 ghost use Rattle.record.specs.Loaded.{load, storeRefusal, storeOctets};
+ghost use Rattle.record.specs.Moves.{forward, forwardRoom, backRefusal, backRoom};
 ghost use Rattle.row.specs.Limiting.{noLimits, limited};
 ghost use Rattle.totals.specs.Totals.{kindTotal};
 ghost use Rattle.row.specs.Row.{eventWith, rowAfter, roomAfter as rowRoom, countOf, recount};
@@ -21,6 +22,7 @@ use kinds::SacApp;
 use kinds::TaId;
 use message::Message;
 use record::Loaded;
+use record::Moved;
 use row::Count;
 use row::Counted;
 use row::EventNumbers;
@@ -229,6 +231,20 @@ pub extern "C" fn tacit_store(session: Session, lent: &mut [u8]) -> u8
     ensures { λ r. ⌜ (r ≡ storeRefusal session (now (lent .entry))) × (now (lent .exit) ≡ storeOctets session (now (lent .entry))) ⌝ }
 {
     record::store(session, lent)
+}
+
+#[no_mangle]
+pub extern "C" fn tacit_forward(kind1: &[u8], kind2: &mut [u8]) -> Moved
+    ensures { λ r. ⌜ (r ≡ forward (now (kind1 .entry)) (now (kind2 .entry))) × (now (kind2 .exit) ≡ forwardRoom (now (kind1 .entry)) (now (kind2 .entry))) ⌝ }
+{
+    record::moves::forward(kind1, kind2)
+}
+
+#[no_mangle]
+pub extern "C" fn tacit_back(kind2: &[u8], kind1: &mut [u8]) -> u8
+    ensures { λ r. ⌜ (r ≡ backRefusal (now (kind2 .entry)) (now (kind1 .entry))) × (now (kind1 .exit) ≡ backRoom (now (kind2 .entry)) (now (kind1 .entry))) ⌝ }
+{
+    record::moves::back(kind2, kind1)
 }
 
 #[no_mangle]

@@ -1,4 +1,4 @@
--- `decode` meets its contract: each return by the tests that led there. Assumes nothing.
+-- `decoded` meets its contract: each return by the tests that led there. Assumes nothing.
 use mathlib.Core.Path.{sym, _∙_}
 use borrow.Author.Tests.{eq-eqb, ne-eqb}
 use Rattle.choice.proofs.Branch.{pick-true, pick-false}
@@ -9,7 +9,7 @@ use Rattle.record.proofs.decoded.Tie as tie
 
 returns : tie.Need-returns
 unfolding decoded
-returns c = simp (eq-eqb _ _ (c .before .before .before .if1 .taken), sym (c .before .before .headed .ensures) ∙ c .before .if2 .taken, c .fields .ensures, pick-true)
+returns c = simp (eq-eqb _ _ (c .before .before .before .before .before .if1 .taken), sym (c .before .before .before .before .headed .ensures) ∙ c .before .before .before .if2 .taken, c .fields .ensures, pick-true)
 
 returns-2 : tie.Need-returns-2
 unfolding decoded
@@ -23,6 +23,6 @@ pub decoded-spec : {M : Type 1} → statement M
 decoded-spec =
     tie.close
     (tie.spec
-    (λ c κs. search needs) (λ c κs. search needs) returns
+    (λ c κs. search needs) (λ c. search needs) (λ c. search needs) (λ c κs. search needs) returns
     (λ c κs. search needs) returns-2
     (λ c κs. search needs) returns-3)
