@@ -1,6 +1,5 @@
 // The stored record of kind 1, and the moves between it and kind 2, which every other call takes.
 ghost use mathlib.Core.Path.{_≡_};
-ghost use Prim.Native.Nat.{_≤_};
 ghost use lib.ListN.{length};
 ghost use Rattle.record.specs.Record.{kind1Length, encodedKind1, decodedKind1};
 ghost use Rattle.record.specs.Moves.{losesByCapabilities, holdsNone, forward, forwardRoom, backRefusal, backRoom};

@@ -1,6 +1,6 @@
 -- `headed` meets its contract: two fields are as they must be exactly where the number that they make is. Assumes nothing.
-use mathlib.Core.Path.{_≡_, sym, ap, _∙_}
-use mathlib.Core.Bool.{Bool, _&&_, and-assoc}
+use mathlib.Core.Path.{_≡_}
+use mathlib.Core.Bool.{_&&_, and-assoc}
 use Prim.Native.Nat.{ℕ, _+_, _*_, _<_}
 use native.Mathlib.Omega.{arith}
 use lib.Dec.{eqb}

@@ -1,17 +1,11 @@
 -- `back` meets its contract: each return by the tests that led there. Assumes nothing.
-use Prim.Native.Nat.{ℕ}
-use mathlib.Core.Path.{_≡_, sym, ap, _∙_}
-use mathlib.Core.Bool.{Bool, true, false}
-use mathlib.Core.List.{List}
+use mathlib.Core.Path.{sym, ap, _∙_}
 use native.Mathlib.Omega.{arith}
-use lib.ListN.{length}
 use borrow.Author.Tests.{eq-eqb, ne-eqb}
 use Rattle.choice.proofs.Branch.{taken, left}
-use Rattle.refusals.specs.Refusals.{notRefused, notSound, capabilitiesHeld}
-use Rattle.session.specs.declared.Session.{Session}
 use Rattle.session.specs.Session.{sound}
-use Rattle.record.specs.Record.{kind1Length, encodedKind1, decoded}
-use Rattle.record.specs.Moves.{holdsNone, backRefusal, backRoom}
+use Rattle.record.specs.Record.{encodedKind1, decoded}
+use Rattle.record.specs.Moves.{holdsNone}
 use Rattle.record.proofs.Back.{back-done, back-held, back-size, back-unsound, done-room, stays-room}
 use borrow.Author.Needs.{needs}
 use Rattle.record.proofs.moves.back.Statement.{statement}

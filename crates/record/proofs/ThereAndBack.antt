@@ -1,0 +1,192 @@
+-- There and back gives the old record, back and there the new one: each way the session is the same, and it is stored as it was read. When each way is
+-- refused goes by its tests. And a record is of one kind alone, by its length and its kind field. Assumes nothing.
+use Prim.Native.Nat.{ℕ, _<_}
+use mathlib.Core.Path.{_≡_, refl, sym, ap, ap₂, _∙_}
+use mathlib.Core.Bool.{Bool, true, false, _&&_}
+use mathlib.Core.List.{List}
+use native.Mathlib.Omega.{arith}
+use borrow.Author.Tests.{eqb-true, eq-eqb, ne-eqb}
+use lib.Dec.{eqb}
+use lib.ListN.{length, getD}
+use Rattle.choice.proofs.Branch.{taken, left, by-test}
+use Rattle.choice.proofs.Tests.{and-first, and-second}
+use Rattle.sets.specs.Set.{empty}
+use Rattle.sets.proofs.Subsets.{empty-is}
+use Rattle.octets.specs.Octets.{leAt16}
+use Rattle.refusals.specs.Refusals.{notRefused, notSound}
+use Rattle.session.specs.declared.Session.{Session}
+use Rattle.session.specs.Session.{held, sound}
+use Rattle.session.specs.With.{noSession}
+use Rattle.record.specs.Record.{recordLength, lengthField, kindField, kind1Length, kind1LengthField, kind1Field, encodedKind1, storedIn, headed, decoded, decodedKind1}
+use Rattle.record.specs.Loaded.{storeRefusal, storeOctets}
+use Rattle.record.specs.Moves.{forward, forwardRoom, holdsNone, backRefusal, backRoom, ThereAndBack, BackAndThere, ForwardRefused, BackRefused, MovesRefused, OneKind}
+use Rattle.record.proofs.RoundTrip.{read-back-kind1, read, read-kind1, narrow, narrow-kind1, stored-back-kind1, stored-back, stored-is}
+use Rattle.record.proofs.Back.{back-unsound, back-size, back-held, back-done, done-room, stays-room}
+
+-- ---- storing a session
+-- it is not refused exactly where the session is sound and the room of its size
+store-done : (s : Session) (room : List ℕ) → sound s ≡ true → length room ≡ recordLength → storeRefusal s room ≡ notRefused
+unfolding storeRefusal
+store-done s room h n = taken _ _ h ∙ taken _ _ (eq-eqb _ _ n)
+
+module _ (s : Session) (room : List ℕ) (done : storeRefusal s room ≡ notRefused) where
+  pub done-sound : sound s ≡ true
+  unfolding storeRefusal
+  done-sound = go (sound s) refl
+    where
+      go : (x : Bool) → sound s ≡ x → sound s ≡ true
+      go true e = e
+      go false e = absurd (omega (arith, sym (left _ _ e) ∙ done))
+
+  pub done-long : length room ≡ recordLength
+  unfolding storeRefusal
+  done-long = go (eqb (length room) recordLength) refl
+    where
+      go : (x : Bool) → eqb (length room) recordLength ≡ x → length room ≡ recordLength
+      go true e = eqb-true _ _ e
+      go false e = absurd (omega (arith, sym (taken _ _ done-sound ∙ left _ _ e) ∙ done))
+
+store-stays : (s : Session) (room : List ℕ) → (storeRefusal s room ≡ notRefused → ⊥) → storeOctets s room ≡ room
+unfolding storeOctets storedIn
+store-stays s room refused =
+    by-test Stays (λ h. by-test Stays (λ n. absurd (refused (store-done s room h (eqb-true _ _ n)))) (λ _. refl)) (λ _. refl)
+  where
+    Stays : List ℕ → Type 0
+    Stays l = l ≡ room
+
+-- ---- a record of kind 1 holds no capability
+pub none-held : (l : List ℕ) → (decodedKind1 l .ours ≡ 0) × (decodedKind1 l .theirs ≡ 0)
+unfolding decodedKind1
+none-held l = by-test None (λ _. by-test None (λ _. (refl, refl)) (λ _. (refl, refl))) (λ _. (refl, refl))
+  where
+    None : Session → Type 0
+    None s = (s .ours ≡ 0) × (s .theirs ≡ 0)
+
+both-none : {a b : ℕ} → a ≡ 0 → b ≡ 0 → (empty a && empty b) ≡ true
+unfolding empty
+both-none e f = ap₂ (λ (a b : ℕ). eqb a 0 && eqb b 0) e f
+
+-- ---- there and back
+module _ (l room : List ℕ) (o : (i : ℕ) → getD l i 0 < 256) (h : sound (decodedKind1 l) ≡ true) (n : length room ≡ recordLength) where
+  forward-done : forward l room .refusal ≡ notRefused
+  unfolding forward
+  forward-done = store-done (decodedKind1 l) room h n
+
+  pub there-is : decoded (forwardRoom l room) ≡ decodedKind1 l
+  unfolding forwardRoom
+  there-is = stored-is (decodedKind1 l) room h (narrow-kind1 l o) n
+
+pub there-and-back : ThereAndBack
+there-and-back l room room′ o h n n′ =
+    let is = there-is l room o h n in
+    let none = none-held l in
+    let back = back-done (forwardRoom l room) room′ (ap sound is ∙ h) (eq-eqb _ _ n′) (ap holdsNone is ∙ both-none (none .0) (none .1)) in
+    record {
+      there = forward-done l room o h n;
+      back = back;
+      octets = done-room (forwardRoom l room) room′ back ∙ ap encodedKind1 is ∙ stored-back-kind1 l o h;
+    }
+
+-- ---- back and there
+module _ (l room : List ℕ) (e : backRefusal l room ≡ notRefused) where
+  back-sound : sound (decoded l) ≡ true
+  back-sound = go (sound (decoded l)) refl
+    where
+      go : (x : Bool) → sound (decoded l) ≡ x → sound (decoded l) ≡ true
+      go true h = h
+      go false h = absurd (omega (arith, sym (back-unsound l room h) ∙ e))
+
+  back-sized : eqb (length room) kind1Length ≡ true
+  back-sized = go (eqb (length room) kind1Length) refl
+    where
+      go : (x : Bool) → eqb (length room) kind1Length ≡ x → eqb (length room) kind1Length ≡ true
+      go true n = n
+      go false n = absurd (omega (arith, sym (back-size l room n) ∙ e))
+
+  back-none : holdsNone (decoded l) ≡ true
+  back-none = go (holdsNone (decoded l)) refl
+    where
+      go : (x : Bool) → holdsNone (decoded l) ≡ x → holdsNone (decoded l) ≡ true
+      go true none = none
+      go false held = absurd (omega (arith, sym (back-held l room back-sound back-sized held) ∙ e))
+
+  back-is : ((i : ℕ) → getD l i 0 < 256) → decodedKind1 (backRoom l room) ≡ decoded l
+  back-is o =
+      let s = decoded l in
+      let narrow-l = narrow l o in
+      ap decodedKind1 (done-room l room e)
+      ∙ read-back-kind1 s back-sound (narrow-l .hello) (narrow-l .next)
+      (empty-is (s .ours) (and-first (empty (s .ours)) _ back-none)) (empty-is (s .theirs) (and-second (empty (s .ours)) _ back-none))
+
+pub back-and-there : BackAndThere
+unfolding forward forwardRoom storeOctets storedIn
+back-and-there l room room′ o e n =
+    let is = back-is l room e o in
+    let h = back-sound l room e in
+    record {
+      there = ap (λ (s : Session). storeRefusal s room′) is ∙ store-done (decoded l) room′ h n;
+      octets = ap (λ (s : Session). storeOctets s room′) is ∙ taken _ _ h ∙ taken _ _ (eq-eqb _ _ n) ∙ stored-back l o h;
+    }
+
+-- ---- refused
+forward-refused : (l room : List ℕ) → ForwardRefused l room
+unfolding forward forwardRoom storeRefusal
+forward-refused l room =
+    record {
+      unsound = λ h. left _ _ h;
+      no-size = λ n. by-test (λ (r : ℕ). r ≡ notSound) (λ _. left _ _ (ne-eqb _ _ n)) (λ _. refl);
+      stays = λ r. (left _ _ (ne-eqb _ _ r), store-stays (decodedKind1 l) room r);
+    }
+
+-- the octets of capabilities are the session's
+held-octets : (l : List ℕ) → sound (decoded l) ≡ true → holdsNone (decoded l) ≡ (empty (getD l 22 0) && empty (getD l 23 0))
+unfolding decoded
+held-octets l h = ap holdsNone (read l h .by-fields)
+
+back-refused : (l room : List ℕ) → BackRefused l room
+back-refused l room =
+    record {
+      unsound = back-unsound l room;
+      no-size = λ n. back-size l room (ne-eqb _ _ n);
+      held = λ h n. (
+        λ r none.
+            omega (arith, sym (back-done l room h (eq-eqb _ _ n) (held-octets l h ∙ both-none (none .0) (none .1))) ∙ r),
+        λ some. back-held l room h (eq-eqb _ _ n) (not-both h some),
+      );
+      stays = stays-room l room;
+    }
+  where
+    not-both : sound (decoded l) ≡ true → ((getD l 22 0 ≡ 0) × (getD l 23 0 ≡ 0) → ⊥) → holdsNone (decoded l) ≡ false
+    not-both h some = go (holdsNone (decoded l)) refl
+      where
+        go : (x : Bool) → holdsNone (decoded l) ≡ x → holdsNone (decoded l) ≡ false
+        go false e = e
+        go true e =
+            let f = sym (held-octets l h) ∙ e in
+            absurd (some (empty-is _ (and-first (empty (getD l 22 0)) _ f), empty-is _ (and-second (empty (getD l 22 0)) _ f)))
+
+pub moves-refused : MovesRefused
+moves-refused = record { forward-refused = forward-refused; back-refused = back-refused }
+
+-- ---- one kind or the other
+other-kind : (l : List ℕ) → (leAt16 l 2 ≡ kindField → ⊥) → decoded l ≡ noSession
+unfolding decoded headed
+other-kind l not-2 =
+    by-test None
+    (λ _. by-test None (λ h. absurd (not-2 (eqb-true _ _ (and-first (eqb (leAt16 l 2) kindField) _ (and-second (eqb (leAt16 l 0) lengthField) _ h))))) (λ _. refl))
+    (λ _. refl)
+  where
+    None : Session → Type 0
+    None s = s ≡ noSession
+
+pub one-kind : OneKind
+unfolding decodedKind1 headed
+one-kind =
+    record {
+      other-kind = other-kind;
+      kind1 = λ l h.
+          let r = read-kind1 l h in
+          let is-1 : leAt16 l 2 ≡ kind1Field = eqb-true _ _ (and-first (eqb (leAt16 l 2) kind1Field) _ (and-second (eqb (leAt16 l 0) kind1LengthField) _ (r .is-headed))) in
+          other-kind l (λ is-2. omega (arith, sym is-1 ∙ is-2));
+      kind2 = λ l h. left _ _ (ne-eqb _ _ (λ (n : length l ≡ kind1Length). omega (arith, sym n ∙ read l h .is-long)));
+    }
