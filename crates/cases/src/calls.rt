@@ -38,7 +38,7 @@ pub(crate) fn area_of(call: &[u8]) -> &[u8] {
 }
 
 // How many octets each call has, by its number; one with an area has as many more as its second and third say.
-const LENGTHS: [usize; 22] = [
+const LENGTHS: [usize; 24] = [
     0,
     22, // create
     WITH_AREA, // initialization
@@ -61,6 +61,8 @@ const LENGTHS: [usize; 22] = [
     6, // the SAC for an Initialization
     9, // wanted
     15, // the total of a kind
+    WITH_AREA, // forward
+    2, // back
 ];
 
 const WITH_AREA: usize = 3;

@@ -73,6 +73,19 @@ fn wanted(call: &[u8]) {
     lines::number(w.wanted as u64);
 }
 
+// The record is the room that the octets of the call are moved into.
+fn forward(lent: &mut [u8], call: &[u8]) {
+    let moved = tacit::tacit_forward(calls::area_of(call), lent);
+    lines::number(moved.refusal as u64);
+    lines::number(moved.lost as u64);
+    lines::octets(lent);
+}
+
+fn back(room: &mut [u8], lent: &[u8]) {
+    lines::number(tacit::tacit_back(lent, room) as u64);
+    lines::octets(room);
+}
+
 fn permitted(lent: &[u8], call: &[u8]) {
     let p = tacit::tacit_permitted(lent, calls::number(call, 1));
     lines::number(p.refusal as u64);
@@ -189,6 +202,7 @@ fn in_room(room: &mut [u8], lent: &mut [u8], which: u8, call: &[u8]) {
         4 => local_change(room, lent, call),
         17 => store(room, call),
         18 => wish(room, lent, call),
+        23 => back(room, lent),
         _ => wish_sac(room, call),
     }
 }
@@ -202,7 +216,7 @@ fn with_room(lent: &mut [u8], which: u8, call: &[u8]) {
 fn by_number(lent: &mut [u8], which: u8, call: &[u8]) {
     match which {
         1 => create(lent, call),
-        4 | 17 | 18 | 19 => with_room(lent, which, call),
+        4 | 17 | 18 | 19 | 23 => with_room(lent, which, call),
         8 => permitted(lent, call),
         9 => permitted_kinds(lent),
         10 => retry_interval(lent),
@@ -214,6 +228,7 @@ fn by_number(lent: &mut [u8], which: u8, call: &[u8]) {
         16 => load(lent),
         20 => wanted(call),
         21 => kind_total(call),
+        22 => forward(lent, call),
         _ => event(lent, which, call),
     }
 }

@@ -90,6 +90,7 @@ session-determined =
       new = by-equation _;
       sound = by-equation _;
       permitted = by-equation _;
+      permitted-by-base = by-equation _;
       permitted-kinds = by-equation _;
       permission = by-equation _;
       why-not = by-equation _;
@@ -119,6 +120,8 @@ record-determined =
       carry = λ κs. by-law _ (λ a r s p. both-same (p .answer) (p .octets));
       load = λ κs. by-equation _;
       store = λ κs. by-law _ (λ a r s p. both-same (p .0) (p .1));
+      forward = λ κs. by-law _ (λ a r s p. both-same (p .0) (p .1));
+      back = λ κs. by-law _ (λ a r s p. both-same (p .0) (p .1));
     }
 
 totals-determined : TotalsDetermined
@@ -167,6 +170,8 @@ tacit-determined =
       tacit-sound = λ κs. by-equation _;
       tacit-load = λ κs. by-equation _;
       tacit-store = λ κs. by-law _ (λ a r s p. both-same (p .0) (p .1));
+      tacit-forward = λ κs. by-law _ (λ a r s p. both-same (p .0) (p .1));
+      tacit-back = λ κs. by-law _ (λ a r s p. both-same (p .0) (p .1));
       tacit-no-limits = by-equation _;
       tacit-set-limit = by-equation _;
       tacit-row-count = λ κs. by-equation _;

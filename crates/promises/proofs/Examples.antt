@@ -1,4 +1,4 @@
--- The examples of sessions, of wishes, of rows and of capabilities, and the counterexamples, hold: they are computed, with every definition unfolded. Assumes nothing.
+-- The examples of sessions, of wishes, of rows, of capabilities and of moves, and the counterexamples, hold: they are computed, with every definition unfolded. Assumes nothing.
 use mathlib.Core.Path.{refl}
 use Rattle.choice.specs.Pick.{pick}
 use Rattle.sets.specs.Set.{has, common, union, minus, with, without, empty, below, within, numbered, switched, chosen}
@@ -22,6 +22,9 @@ use Rattle.session.specs.Events.{afterInitialization, onInitialization, listAft
 use Rattle.row.specs.Limiting.{capped}
 use Rattle.row.specs.Events.{eventOf}
 use Rattle.session.proofs.View.{in-more}
+use Rattle.record.specs.Record.{headed, decoded, decodedKind1, storedIn}
+use Rattle.record.specs.Loaded.{storeRefusal, storeOctets}
+use Rattle.record.specs.Moves.{losesByCapabilities, forward, forwardRoom, backRefusal, backRoom}
 use Rattle.totals.specs.Totals.{totalAfter, goesOutside, movedEach, oneOutside, totalsAfter, anyOutside, totalled, kindTotal}
 use Rattle.row.specs.Row.{howMany, belowLimit, allSound, eventAt, walked, recount}
 use Rattle.promises.specs.Examples.{Examples, WhyItStops, WhyAtThatMoment, FurtherKind}
@@ -29,14 +32,15 @@ use Rattle.promises.specs.RowExamples.{RowExamples, WhyTheOneSession}
 use Rattle.promises.specs.TotalExamples.{TotalExamples}
 use Rattle.promises.specs.CapabilityExamples.{CapabilityExamples}
 use Rattle.promises.specs.WishExamples.{WishExamples}
+use Rattle.promises.specs.MoveExamples.{MoveExamples}
 
-computed : Examples × (WhyItStops × (WhyAtThatMoment × (FurtherKind × (RowExamples × (WhyTheOneSession × (WishExamples × (TotalExamples × CapabilityExamples)))))))
+computed : Examples × (WhyItStops × (WhyAtThatMoment × (FurtherKind × (RowExamples × (WhyTheOneSession × (WishExamples × (TotalExamples × (CapabilityExamples × MoveExamples))))))))
 unfolding
     pick has common union minus with without empty below within numbered switched chosen isIn setOf opens controlled needed gather opened disables barred over at16 takeTlv
     passOther byType tlvAt readFrom readArea part sBit idAt eAt stood after tacList sacElement sacAfter sacList roomWith nothingCommon spareZero forceSound
     listedSound openSound theirsSound helloSound heldSound goneSound sound permittedByBase permitted theirsAfter unopened whyBarred why whyNot mismatched heldToReady raised used atLimit answered settled afterInitialization
     onInitialization listAfter flagsAfter afterCapability onCapability writing onLocalChange onHello roomAfter capped eventOf howMany belowLimit allSound
-    eventAt totalAfter goesOutside movedEach oneOutside totalsAfter anyOutside totalled kindTotal walked recount wishElements sacFor soundWishes wishesAfter wanted wishSac sacRoom telling onWish onClosed
+    eventAt totalAfter goesOutside movedEach oneOutside totalsAfter anyOutside totalled kindTotal walked recount wishElements sacFor soundWishes wishesAfter wanted wishSac sacRoom telling onWish onClosed headed decoded decodedKind1 storedIn storeRefusal storeOctets losesByCapabilities forward forwardRoom backRefusal backRoom
 computed = (
   record {
     one = refl;
@@ -122,26 +126,52 @@ computed = (
                   over-9 = refl;
                   recounted = refl;
                 },
-                record {
-                  one = refl;
-                  eight = refl;
-                  ours-alone = refl;
-                  theirs-alone = refl;
-                  is-open = refl;
-                  nothing = refl;
-                  not-theirs = refl;
-                  not-ours = refl;
-                  announced = refl;
-                  withdrawn = refl;
-                  stays = refl;
-                  cleared = refl;
-                  read = refl;
-                  holding = refl;
-                  no-octet = refl;
-                  two-octets = refl;
-                  twice = refl;
-                  next-type = refl;
-                },
+                (
+                  record {
+                    one = refl;
+                    eight = refl;
+                    ours-alone = refl;
+                    theirs-alone = refl;
+                    is-open = refl;
+                    nothing = refl;
+                    not-theirs = refl;
+                    not-ours = refl;
+                    announced = refl;
+                    withdrawn = refl;
+                    stays = refl;
+                    cleared = refl;
+                    read = refl;
+                    holding = refl;
+                    no-octet = refl;
+                    two-octets = refl;
+                    twice = refl;
+                    next-type = refl;
+                  },
+                  record {
+                    moved = refl;
+                    answer = refl;
+                    fresh = refl;
+                    back = refl;
+                    unforced = refl;
+                    mldp = refl;
+                    no-mldp = refl;
+                    protected = refl;
+                    reason = refl;
+                    not-kind1 = refl;
+                    long-kind1 = refl;
+                    no-size = refl;
+                    stays = refl;
+                    held = refl;
+                    held-stays = refl;
+                    spare = refl;
+                    outside-open = refl;
+                    wide = refl;
+                    not-kind2 = refl;
+                    short = refl;
+                    lengthened = refl;
+                    kind2 = refl;
+                  },
+                ),
               ),
             ),
           ),
@@ -176,4 +206,7 @@ pub total-examples : TotalExamples
 total-examples = computed .1 .1 .1 .1 .1 .1 .1 .0
 
 pub capability-examples : CapabilityExamples
-capability-examples = computed .1 .1 .1 .1 .1 .1 .1 .1
+capability-examples = computed .1 .1 .1 .1 .1 .1 .1 .1 .0
+
+pub move-examples : MoveExamples
+move-examples = computed .1 .1 .1 .1 .1 .1 .1 .1 .1

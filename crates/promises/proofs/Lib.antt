@@ -5,6 +5,7 @@ pub mod Capabilities
 pub mod Written
 pub mod Records
 pub mod Calls
+pub mod Moves
 pub mod Rows
 pub mod RowTotals
 pub mod Limits

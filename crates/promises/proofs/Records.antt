@@ -1,51 +1,26 @@
 -- A record holds the session that its events lead to. A refused event leaves both as they were; after any other the record is that of the session
 -- after it, which reads back as it was stored, since it is sound and its two numbers stay below 2 ^ 32. Assumes nothing.
-use Prim.Native.Nat.{ℕ, _+_, _*_, _^_, _<_}
+use Prim.Native.Nat.{ℕ}
 use mathlib.Core.Path.{_≡_, refl, sym, ap, _∙_, subst}
-use mathlib.Core.Bool.{Bool, true, false}
+use mathlib.Core.Bool.{true}
 use mathlib.Core.List.{List, [], _∷_}
-use native.Mathlib.Omega.{arith}
 use native.Mathlib.Decide.{ℕ-discrete}
-use lib.Dec.{eqb, lit<}
 use lib.ListN.{length}
-use borrow.Author.Tests.{eqb-true, eq-eqb, ne-eqb}
+use borrow.Author.Tests.{eq-eqb, ne-eqb}
 use Rattle.choice.proofs.Branch.{by-test, taken, left}
 use Rattle.session.specs.declared.Session.{Session}
 use Rattle.session.specs.declared.After.{After}
 use Rattle.session.specs.Session.{sound, Sound, Narrow}
-use Rattle.session.specs.With.{noSession}
 use Rattle.session.specs.Events.{Event, Numbered, step, run}
 use Rattle.session.proofs.SoundMeans.{sound-means, means-sound}
 use Rattle.session.proofs.Steps.{step-sound, step-narrow}
 use Rattle.record.specs.Record.{recordLength, encoded, storedIn, decoded}
 use Rattle.record.specs.Carried.{recordAfter}
-use Rattle.record.proofs.RoundTrip.{never-sound, read-back, stored-back}
+use Rattle.record.proofs.RoundTrip.{read, narrow, read-back, stored-back}
 use Rattle.promises.specs.Records.{Octets, recordRun, AllNumbered, RecordsFollow}
 use Rattle.promises.proofs.Runs.{refused-is-nothing}
 
 -- ---- one event
--- a record of a sound session: 22 octets, and the numbers that four octets hold
-long : (l : List ℕ) → sound (decoded l) ≡ true → length l ≡ recordLength
-unfolding decoded
-long l h = go (eqb (length l) recordLength) refl
-  where
-    go : (x : Bool) → eqb (length l) recordLength ≡ x → length l ≡ recordLength
-    go true e = eqb-true (length l) recordLength e
-    go false e = absurd (never-sound (subst (λ (s : Session). sound s ≡ true) (left _ noSession e) h))
-
-four : (a b c d : ℕ) → a < 256 → b < 256 → c < 256 → d < 256 → a + 256 * b + 65536 * c + 16777216 * d < 2 ^ 32
-four a b c d ha hb hc hd = omega arith
-
-pub narrow : (l : List ℕ) → Octets l → Narrow (decoded l)
-unfolding decoded
-narrow l o =
-    by-test Narrow
-    (λ _. by-test Narrow (λ _. record { hello = four _ _ _ _ (o 14) (o 15) (o 16) (o 17); next = four _ _ _ _ (o 18) (o 19) (o 20) (o 21) }) (λ _. none))
-    (λ _. none)
-  where
-    none : Narrow noSession
-    none = record { hello = lit< tt; next = lit< tt }
-
 -- what is known of a record and its session between two events
 pub record Holds (l : List ℕ) : Type 0 where
   pub is-long : length l ≡ recordLength
@@ -54,7 +29,7 @@ pub record Holds (l : List ℕ) : Type 0 where
   pub is-stored : encoded (decoded l) ≡ l
 
 pub holds : (l : List ℕ) → Octets l → sound (decoded l) ≡ true → Holds l
-holds l o h = record { is-long = long l h; is-sound = sound-means (decoded l) h; is-narrow = narrow l o; is-stored = stored-back l o h }
+holds l o h = record { is-long = read l h .is-long; is-sound = sound-means (decoded l) h; is-narrow = narrow l o; is-stored = stored-back l o h }
 
 module _ (l : List ℕ) (h : Holds l) (e : Event) (k : Numbered e) where
   abbrev pub after : After

@@ -20,6 +20,7 @@ use Rattle.totals.specs.Totals.{kindTotal}
 use Rattle.row.specs.Row.{countOf, recount}
 use Rattle.record.specs.Record.{decoded}
 use Rattle.record.specs.Loaded.{load, storeRefusal, storeOctets}
+use Rattle.record.specs.Moves.{forward, forwardRoom, backRefusal, backRoom}
 use Rattle.tacit.specs.Creation.{CreatedIn}
 use Rattle.record.specs.Carried.{Carried}
 use Rattle.tacit.proofs.tacit_create.Reads as create
@@ -40,6 +41,8 @@ use Rattle.tacit.proofs.tacit_retry_interval.Reads as retry-interval
 use Rattle.tacit.proofs.tacit_sound.Reads as is-sound
 use Rattle.tacit.proofs.tacit_load.Reads as loaded
 use Rattle.tacit.proofs.tacit_store.Reads as stored
+use Rattle.tacit.proofs.tacit_forward.Reads as moved-forward
+use Rattle.tacit.proofs.tacit_back.Reads as moved-back
 use Rattle.tacit.proofs.tacit_no_limits.Reads as no-limits
 use Rattle.tacit.proofs.tacit_set_limit.Reads as set-limit
 use Rattle.tacit.proofs.tacit_kind_total.Reads as kind-total
@@ -110,6 +113,10 @@ pub record CallsAnswer : Type 0 where
   pub tacit-sound : (κs : _) (a r s : _) → is-sound.Post κs a r s → r ≡ sound (decoded (a .0 .now))
   pub tacit-load : (κs : _) (a r s : _) → loaded.Post κs a r s → r ≡ load (a .0 .now)
   pub tacit-store : (κs : _) (a r s : _) → stored.Post κs a r s → (r ≡ storeRefusal (a .0) (a .1 .0 .now)) × (s .1 .0 .now ≡ storeOctets (a .0) (a .1 .0 .now))
+  pub tacit-forward : (κs : _) (a r s : _) → moved-forward.Post κs a r s
+      → (r ≡ forward (a .0 .now) (a .1 .0 .now)) × (s .1 .0 .now ≡ forwardRoom (a .0 .now) (a .1 .0 .now))
+  pub tacit-back : (κs : _) (a r s : _) → moved-back.Post κs a r s
+      → (r ≡ backRefusal (a .0 .now) (a .1 .0 .now)) × (s .1 .0 .now ≡ backRoom (a .0 .now) (a .1 .0 .now))
   pub tacit-no-limits : (a r s : _) → no-limits.Post tt a r s → r ≡ noLimits
   pub tacit-set-limit : (a r s : _) → set-limit.Post tt a r s → r ≡ limited (a .0) (a .1 .0) (a .1 .1 .0)
   pub tacit-row-count : (κs : _) (a r s : _) → RowCount κs a r s → r ≡ countOf (a .0 .now) (a .1 .0)

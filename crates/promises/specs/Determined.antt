@@ -47,6 +47,7 @@ use Rattle.wishes.proofs.sac.Reads as wishes-sac
 use Rattle.session.proofs.Session.new.Reads as session-new
 use Rattle.session.proofs.Session.sound.Reads as session-sound
 use Rattle.session.proofs.Session.permitted.Reads as session-permitted
+use Rattle.session.proofs.Session.permitted_by_base.Reads as session-permitted-by-base
 use Rattle.session.proofs.Session.permitted_kinds.Reads as session-permitted-kinds
 use Rattle.session.proofs.Session.permission.Reads as session-permission
 use Rattle.session.proofs.Session.why_not.Reads as session-why-not
@@ -71,6 +72,8 @@ use Rattle.record.proofs.decoded.Reads as record-decoded
 use Rattle.record.proofs.carry.Reads as record-carry
 use Rattle.record.proofs.load.Reads as record-load
 use Rattle.record.proofs.store.Reads as record-store
+use Rattle.record.proofs.moves.forward.Reads as record-forward
+use Rattle.record.proofs.moves.back.Reads as record-back
 use Rattle.totals.proofs.Totals.totalled.Reads as totals-totalled
 use Rattle.totals.proofs.Totals.of_kind.Reads as totals-of-kind
 use Rattle.row.proofs.Counted.applications.Reads as row-applications
@@ -102,6 +105,8 @@ use Rattle.tacit.proofs.tacit_retry_interval.Reads as tacit-retry-interval
 use Rattle.tacit.proofs.tacit_sound.Reads as tacit-sound
 use Rattle.tacit.proofs.tacit_load.Reads as tacit-load
 use Rattle.tacit.proofs.tacit_store.Reads as tacit-store
+use Rattle.tacit.proofs.tacit_forward.Reads as tacit-forward
+use Rattle.tacit.proofs.tacit_back.Reads as tacit-back
 use Rattle.tacit.proofs.tacit_no_limits.Reads as tacit-no-limits
 use Rattle.tacit.proofs.tacit_set_limit.Reads as tacit-set-limit
 use Rattle.tacit.proofs.tacit_kind_total.Reads as tacit-kind-total
@@ -167,6 +172,7 @@ pub record SessionDetermined : Type 0 where
   pub new : Determined (session-new.Post tt)
   pub sound : Determined (session-sound.Post tt)
   pub permitted : Determined (session-permitted.Post tt)
+  pub permitted-by-base : Determined (session-permitted-by-base.Post tt)
   pub permitted-kinds : Determined (session-permitted-kinds.Post tt)
   pub permission : Determined (session-permission.Post tt)
   pub why-not : Determined (session-why-not.Post tt)
@@ -193,6 +199,8 @@ pub record RecordDetermined : Type 0 where
   pub carry : (κs : _) → Determines (record-carry.Post κs) (λ r s. both r (s .0 .now))
   pub load : (κs : _) → Determined (record-load.Post κs)
   pub store : (κs : _) → Determines (record-store.Post κs) (λ r s. both r (s .1 .0 .now))
+  pub forward : (κs : _) → Determines (record-forward.Post κs) (λ r s. both r (s .1 .0 .now))
+  pub back : (κs : _) → Determines (record-back.Post κs) (λ r s. both r (s .1 .0 .now))
 
 pub record TotalsDetermined : Type 0 where
   pub totalled : Determined (totals-totalled.Post tt)
@@ -231,6 +239,8 @@ pub record TacitDetermined : Type 0 where
   pub tacit-sound : (κs : _) → Determined (tacit-sound.Post κs)
   pub tacit-load : (κs : _) → Determined (tacit-load.Post κs)
   pub tacit-store : (κs : _) → Determines (tacit-store.Post κs) (λ r s. both r (s .1 .0 .now))
+  pub tacit-forward : (κs : _) → Determines (tacit-forward.Post κs) (λ r s. both r (s .1 .0 .now))
+  pub tacit-back : (κs : _) → Determines (tacit-back.Post κs) (λ r s. both r (s .1 .0 .now))
   pub tacit-no-limits : Determined (tacit-no-limits.Post tt)
   pub tacit-set-limit : Determined (tacit-set-limit.Post tt)
   pub tacit-row-count : (κs : _) → Determined (RowCount κs)

@@ -7,6 +7,7 @@ pub mod Records
 pub mod Walked
 pub mod Wishes
 pub mod Calls
+pub mod Moves
 pub mod Rows
 pub mod RowTotals
 pub mod RowCondition3
@@ -18,5 +19,6 @@ pub mod RowExamples
 pub mod TotalExamples
 pub mod CapabilityExamples
 pub mod WishExamples
+pub mod MoveExamples
 pub mod Determined
 pub mod Promises

@@ -9,12 +9,14 @@ use Rattle.session.specs.Session.{SoundMeans, PermittedMeans}
 use Rattle.session.specs.Capabilities.{AllHeldIsBase, HoldingMore}
 use Rattle.record.specs.Record.{ReadBack, StoredBack}
 use Rattle.record.specs.Loaded.{LoadedBack, StaysAsLoaded}
+use Rattle.record.specs.Moves.{ThereAndBack, BackAndThere, MovesRefused, LostMeans, MovedIsSame, OneKind}
 use Rattle.promises.specs.Run.{SoundOverRuns, RefusedIsNothing, RoomStays, RefusedCanGo, WithoutLimits, FoundOrTold}
 use Rattle.promises.specs.Condition3.{Condition3}
 use Rattle.promises.specs.Capabilities.{OursStay, TheirsOnlyOpen, TheirsFollow}
 use Rattle.promises.specs.Written.{ReadAsMeant}
 use Rattle.promises.specs.Records.{RecordsFollow}
 use Rattle.promises.specs.Calls.{CallsAreEvents, RoomsAreEvents, CallsFollow, CallsAnswer, CreationIsSound, PermittedIsAsked, CallsCondition3}
+use Rattle.promises.specs.Moves.{CallsMove, Kind1Refused}
 use Rattle.promises.specs.Rows.{SoundOverRows, OthersStay, RowRefusedIsNothing, CountsFollow, LimitIsMismatch, LimitsDecide, BaseWhereNoLimitBinds, NoLimitBindsUnset}
 use Rattle.promises.specs.RowTotals.{OwnRefusalsFirst, OwnUnlessOutside, OutsideMeans, TotalsStayEqual, NeverOutside, TotalsFollow, RecountIsWalk, RecountIsKept}
 use Rattle.promises.specs.RowCondition3.{RowCondition3}
@@ -27,6 +29,7 @@ use Rattle.promises.specs.RowExamples.{RowExamples, WhyTheOneSession}
 use Rattle.promises.specs.TotalExamples.{TotalExamples}
 use Rattle.promises.specs.CapabilityExamples.{CapabilityExamples}
 use Rattle.promises.specs.WishExamples.{WishExamples}
+use Rattle.promises.specs.MoveExamples.{MoveExamples}
 use Rattle.promises.specs.Determined.{AllDetermined}
 
 pub record Promises : Type 0 where
@@ -80,6 +83,13 @@ pub record Promises : Type 0 where
   pub records-follow : RecordsFollow
   pub loaded-back : LoadedBack
   pub stays-as-loaded : StaysAsLoaded
+  -- records of kind 1, and the moves
+  pub there-and-back : ThereAndBack
+  pub back-and-there : BackAndThere
+  pub moves-refused : MovesRefused
+  pub lost-means : LostMeans
+  pub moved-is-same : MovedIsSame
+  pub one-kind : OneKind
   -- the C calls
   pub calls-are-events : CallsAreEvents
   pub rooms-are-events : RoomsAreEvents
@@ -88,6 +98,8 @@ pub record Promises : Type 0 where
   pub creation-is-sound : CreationIsSound
   pub permitted-is-asked : PermittedIsAsked
   pub calls-condition-3 : CallsCondition3
+  pub calls-move : CallsMove
+  pub kind1-refused : Kind1Refused
   pub all-determined : AllDetermined
   -- rows
   pub sound-over-rows : SoundOverRows
@@ -124,3 +136,4 @@ pub record Promises : Type 0 where
   pub why-the-one-session : WhyTheOneSession
   pub total-examples : TotalExamples
   pub capability-examples : CapabilityExamples
+  pub move-examples : MoveExamples

@@ -93,11 +93,11 @@ module _ (l room : List ℕ) (done : forward l room .refusal ≡ notRefused) whe
   unfolding forward
   lost-is = taken _ _ (eq-eqb _ _ done)
 
-  kept-sound : sound (decodedKind1 l) ≡ true
+  pub kept-sound : sound (decodedKind1 l) ≡ true
   unfolding forward
   kept-sound = done-sound (decodedKind1 l) room done
 
-  kept-long : length room ≡ recordLength
+  pub kept-long : length room ≡ recordLength
   unfolding forward
   kept-long = done-long (decodedKind1 l) room done
 

@@ -9,12 +9,15 @@ use Rattle.session.proofs.SoundMeans as sound
 use Rattle.session.proofs.PermittedMeans as permits
 use Rattle.session.proofs.Capabilities.{all-held-is-base, holding-more}
 use Rattle.record.proofs.RoundTrip.{read-back, stored-back, loaded-back, stays-as-loaded}
+use Rattle.record.proofs.ThereAndBack.{there-and-back, back-and-there, moves-refused, one-kind}
+use Rattle.record.proofs.MovedSession.{lost-means, moved-is-same}
 use Rattle.promises.proofs.Runs.{sound-over-runs, refused-is-nothing, room-stays, refused-can-go, without-limits, found-or-told}
 use Rattle.promises.proofs.Condition3.{condition-3}
 use Rattle.promises.proofs.Capabilities.{ours-stay, theirs-only-open, theirs-follow}
 use Rattle.promises.proofs.Written.{read-as-meant}
 use Rattle.promises.proofs.Records.{records-follow}
 use Rattle.promises.proofs.Calls.{calls-are-events, rooms-are-events, calls-follow, calls-answer, permitted-is-asked, calls-condition-3}
+use Rattle.promises.proofs.Moves.{calls-move, kind1-refused}
 use Rattle.promises.proofs.Creation.{creation-is-sound}
 use Rattle.promises.proofs.Rows.{sound-over-rows, others-stay, row-refused-is-nothing, counts-follow}
 use Rattle.promises.proofs.Limits.{limit-is-mismatch, limits-decide, base-where-no-limit-binds, no-limit-binds-unset}
@@ -22,7 +25,7 @@ use Rattle.promises.proofs.RowTotals.{own-refusals-first, own-unless-ou
 use Rattle.promises.proofs.RowCondition3.{row-condition-3}
 use Rattle.promises.proofs.RowCalls.{row-calls-are-events, row-calls-follow, row-calls-total, row-calls-condition-3}
 use Rattle.promises.proofs.RowRecords.{narrow-over-rows, row-is-run, row-records-follow}
-use Rattle.promises.proofs.Examples.{examples, why-it-stops, why-at-that-moment, further-kind, row-examples, why-the-one-session, total-examples, capability-examples, wish-examples}
+use Rattle.promises.proofs.Examples.{examples, why-it-stops, why-at-that-moment, further-kind, row-examples, why-the-one-session, total-examples, capability-examples, wish-examples, move-examples}
 use Rattle.promises.proofs.Determined.{all-determined}
 use Rattle.promises.proofs.Why.{why-not}
 use Rattle.promises.proofs.Wishes.{wish-is-kept, wishes-stay, wishes-stay-sound, wishes-of-both}
@@ -76,6 +79,12 @@ returns c =
       records-follow = records-follow;
       loaded-back = loaded-back;
       stays-as-loaded = stays-as-loaded;
+      there-and-back = there-and-back;
+      back-and-there = back-and-there;
+      moves-refused = moves-refused;
+      lost-means = lost-means;
+      moved-is-same = moved-is-same;
+      one-kind = one-kind;
       calls-are-events = calls-are-events;
       rooms-are-events = rooms-are-events;
       calls-follow = calls-follow;
@@ -83,6 +92,8 @@ returns c =
       creation-is-sound = creation-is-sound;
       permitted-is-asked = permitted-is-asked;
       calls-condition-3 = calls-condition-3;
+      calls-move = calls-move;
+      kind1-refused = kind1-refused;
       all-determined = all-determined;
       sound-over-rows = sound-over-rows;
       others-stay = others-stay;
@@ -118,6 +129,7 @@ returns c =
       why-the-one-session = why-the-one-session;
       total-examples = total-examples;
       capability-examples = capability-examples;
+      move-examples = move-examples;
     }
 
 pub kept-spec : {M : Type 1} → statement M
