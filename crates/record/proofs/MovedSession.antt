@@ -23,7 +23,8 @@ use Rattle.session.specs.Questions.{whyPermitted, whyNotOpen, whyDisabledByPeer
 use Rattle.session.proofs.PermittedMeans.{by-base}
 use Rattle.record.specs.Record.{recordLength, decodedKind1}
 use Rattle.record.specs.Moves.{losesByCapabilities, forward, LostMeans, holdingAll, MovedIsSame}
-use Rattle.record.proofs.ThereAndBack.{done-sound, done-long, none-held, there-is}
+use Rattle.record.proofs.ByTest.{done-sound, done-long}
+use Rattle.record.proofs.ThereAndBack.{none-held, there-is}
 
 -- ---- what is lost
 -- a capability that nobody holds bars kinds 2 to 6

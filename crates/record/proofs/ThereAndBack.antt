@@ -21,38 +21,7 @@ use Rattle.record.specs.Record.{recordLength, lengthField, kindField, ki
 use Rattle.record.specs.Loaded.{storeRefusal, storeOctets}
 use Rattle.record.specs.Moves.{forward, forwardRoom, holdsNone, backRefusal, backRoom, ThereAndBack, BackAndThere, ForwardRefused, BackRefused, MovesRefused, OneKind}
 use Rattle.record.proofs.RoundTrip.{read-back-kind1, read, read-kind1, narrow, narrow-kind1, stored-back-kind1, stored-back, stored-is}
-use Rattle.record.proofs.Back.{back-unsound, back-size, back-held, back-done, done-room, stays-room}
-
--- ---- storing a session
--- it is not refused exactly where the session is sound and the room of its size
-store-done : (s : Session) (room : List ℕ) → sound s ≡ true → length room ≡ recordLength → storeRefusal s room ≡ notRefused
-unfolding storeRefusal
-store-done s room h n = taken _ _ h ∙ taken _ _ (eq-eqb _ _ n)
-
-module _ (s : Session) (room : List ℕ) (done : storeRefusal s room ≡ notRefused) where
-  pub done-sound : sound s ≡ true
-  unfolding storeRefusal
-  done-sound = go (sound s) refl
-    where
-      go : (x : Bool) → sound s ≡ x → sound s ≡ true
-      go true e = e
-      go false e = absurd (omega (arith, sym (left _ _ e) ∙ done))
-
-  pub done-long : length room ≡ recordLength
-  unfolding storeRefusal
-  done-long = go (eqb (length room) recordLength) refl
-    where
-      go : (x : Bool) → eqb (length room) recordLength ≡ x → length room ≡ recordLength
-      go true e = eqb-true _ _ e
-      go false e = absurd (omega (arith, sym (taken _ _ done-sound ∙ left _ _ e) ∙ done))
-
-store-stays : (s : Session) (room : List ℕ) → (storeRefusal s room ≡ notRefused → ⊥) → storeOctets s room ≡ room
-unfolding storeOctets storedIn
-store-stays s room refused =
-    by-test Stays (λ h. by-test Stays (λ n. absurd (refused (store-done s room h (eqb-true _ _ n)))) (λ _. refl)) (λ _. refl)
-  where
-    Stays : List ℕ → Type 0
-    Stays l = l ≡ room
+use Rattle.record.proofs.ByTest.{store-done, store-stays, back-unsound, back-size, back-held, back-done, done-room, stays-room}
 
 -- ---- a record of kind 1 holds no capability
 pub none-held : (l : List ℕ) → (decodedKind1 l .ours ≡ 0) × (decodedKind1 l .theirs ≡ 0)

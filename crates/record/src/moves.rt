@@ -57,12 +57,18 @@ pub fn forward(kind1: &[u8], kind2: &mut [u8]) -> Moved
     ensures { λ r. ⌜ (r ≡ forward (now (kind1 .entry)) (now (kind2 .entry))) × (now (kind2 .exit) ≡ forwardRoom (now (kind1 .entry)) (now (kind2 .entry))) ⌝ }
 {
     let s = decoded_kind1(kind1);
-    let refusal = crate::store(s, kind2);
-    if refusal == refusals::NOT_REFUSED {
+    if s.sound() & (kind2.len() == crate::LENGTH) {
+        crate::stored_in(s, kind2);
         let lost = loses_by_capabilities(s);
-        return Moved { refusal, lost };
+        return Moved {
+            refusal: refusals::NOT_REFUSED,
+            lost,
+        };
     }
-    Moved { refusal, lost: 0 }
+    Moved {
+        refusal: refusals::NOT_SOUND,
+        lost: 0,
+    }
 }
 
 // Moves a record into a room of 22 octets, or answers 10, or 13 where it has a capability to lose.

@@ -6,7 +6,7 @@ use Rattle.choice.proofs.Branch.{taken, left}
 use Rattle.session.specs.Session.{sound}
 use Rattle.record.specs.Record.{encodedKind1, decoded}
 use Rattle.record.specs.Moves.{holdsNone}
-use Rattle.record.proofs.Back.{back-done, back-held, back-size, back-unsound, done-room, stays-room}
+use Rattle.record.proofs.ByTest.{back-done, back-held, back-size, back-unsound, done-room, stays-room}
 use borrow.Author.Needs.{needs}
 use Rattle.record.proofs.moves.back.Statement.{statement}
 use Rattle.record.proofs.moves.back.Tie as tie
