@@ -2,7 +2,7 @@
 
 PREFIX        ?= /usr/local
 DESTDIR       ?=
-VERSION       := 4.0.0
+VERSION       := 5.0.0
 CALLS         ?= 200000
 SEED          ?= 0x7AC17
 
@@ -21,7 +21,7 @@ all: $(library) build/tacit.h build/tacit.pc
 help:
 	@echo "make            prove the library and build it: build/libtacit.a, tacit.h, tacit.pc"
 	@echo "make install    put these below PREFIX ($(PREFIX)), below DESTDIR if it is set"
-	@echo "make demo       run examples/: friday.c, the incident replayed in words, ring.c, a night with limits, border.c, a night without prefixes, multicast.c, a peer without P2MP that then announces it, daemon.c, a daemon in small"
+	@echo "make demo       run examples/: friday.c, the incident replayed in words, ring.c, a night with limits, border.c, a night without prefixes, multicast.c, a peer without P2MP that then announces it, upgrade.c, records of an older version moved, daemon.c, a daemon in small"
 	@echo "make test       the gate: c-test, second, compare and some mutants, then every crate proved from nothing"
 	@echo "make c-test     check the library through C: tests, sanitizers, header, demos"
 	@echo "make compare    the library and the same in plain C against the second implementation; CALLS=$(CALLS) SEED=$(SEED)"
@@ -89,7 +89,7 @@ install: $(library)
 
 demo: $(library)
 	@mkdir -p build
-	@for each in friday ring border multicast daemon; do \
+	@for each in friday ring border multicast upgrade daemon; do \
 	    $(here) tests/c/host cc -std=c11 -O2 -Wall -Wextra -Iinclude -o build/$$each examples/$$each.c "$(library)" && \
 	    echo && $(here) tests/c/host run build/$$each || exit 1; \
 	done

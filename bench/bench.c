@@ -9,8 +9,10 @@
  * WHO is tacit, the library; plain, the same in C (plain.c); second, the second
  * program; or nothing: calls with the same parameters that do nothing, for what the
  * loop itself takes. Before each call the record is put back as it was, and the
- * session of the row that events are for; no other buffer is touched. A question about
- * a session by itself is asked as a walk does: a call for each session of the row.
+ * session of the row that events are for; no other buffer is touched. A move reads the
+ * record of one kind, which is there from the start, and writes that of the other. A
+ * question about a session by itself is asked as a walk does: a call for each session of
+ * the row.
  */
 #define _DEFAULT_SOURCE
 #include "calls.h"
@@ -64,13 +66,19 @@ static struct area no_mldp = {15, {0x85, 0x08, 0, 1, 0, 0x85, 0x09, 0, 1, 0, 0x8
 static struct area withdrawn = {16, {0x85, 0x0F, 0, 1, 0, 0x85, 0x0D, 0, 2, 0x80, 0x90,
                                      0x89, 0x02, 0, 1, 0x80}};
 
+/* Dynamic, SAC of App 3, TAC of 3, 4 and 7, and no capability. */
+static struct area trees = {28, {0x85, 0x06, 0, 1, 0x80, 0x85, 0x0D, 0, 2, 0x80, 0xB0, 0x85, 0x0F,
+                                 0, 13, 0x80, 0, 3, 0x80, 0, 0, 4, 0x80, 0, 0, 7, 0x80, 0}};
+
 /* A TAC alone: by how many elements it has, and by what they name. */
 static struct area elements_250, elements_500, elements_1000, unknown_1000, repeated_1000;
 
 static struct area thousand_tlvs, none;
 
 static uint8_t ready[TACIT_RECORD_LENGTH], opened[TACIT_RECORD_LENGTH], all[TACIT_RECORD_LENGTH];
+static uint8_t bare[TACIT_RECORD_LENGTH];
 static uint8_t record[TACIT_RECORD_LENGTH], room[TACIT_MESSAGE_LENGTH];
+static uint8_t kind1[TACIT_KIND1_LENGTH], kind2[TACIT_RECORD_LENGTH]; /* of a move */
 
 /* Of the row a part is lent. 4 may be used by two of its sessions, 7 by all. */
 static struct tacit_session sessions[TACIT_ROW_MOST];
@@ -118,6 +126,12 @@ static void prepare_all(void)
     tacit_initialization(opened, sizeof opened, six.octets, six.length);
     memcpy(all, ready, sizeof all);
     tacit_initialization(all, sizeof all, ten.octets, ten.length);
+    /* One that enables 3 too, uses all three, and holds no capability. */
+    struct tacit_settings without = settings;
+    without.enabled |= TACIT_APP_SET(TACIT_APP_MLDP_TUNNELING);
+    without.capabilities = 0;
+    tacit_create(bare, sizeof bare, without);
+    tacit_initialization(bare, sizeof bare, trees.octets, trees.length);
     limits = tacit_set_limit(tacit_no_limits(), 4, 2).limits;
 }
 
@@ -201,6 +215,9 @@ static const struct row rows[] = {
      {.call = WANTED, .wishes = PREFIXES, .kind = TACIT_KIND_GENERALIZED_PWID}},
     {"retry", "retry interval", 10000, opened, &none, {.call = RETRY_INTERVAL}},
     {"sound", "sound", 10000, opened, &none, {.call = SOUND}},
+    {"forward", "move forward, an Open session that loses five kinds", 10000, bare, &none,
+     {.call = FORWARD}},
+    {"back", "move back, an Open session", 10000, bare, &none, {.call = BACK}},
     {"load", "load", 10000, opened, &none, {.call = LOAD}},
     {"store", "store", 10000, opened, &none, {.call = STORE}},
     {"row-init-1", "Initialization in a row of 1, six capability TLVs", 1000, ready, &six,
@@ -239,6 +256,17 @@ enum { ROWS = sizeof rows / sizeof *rows };
 
 static uint8_t said[SAID]; /* by the last call */
 
+/* The record that a move is to read; its room is empty. */
+static void prepare_move(const struct row *row)
+{
+    memset(kind1, 0, sizeof kind1);
+    memset(kind2, 0, sizeof kind2);
+    if (row->given.call == FORWARD)
+        tacit_back(row->from, sizeof record, kind1, sizeof kind1);
+    if (row->given.call == BACK)
+        memcpy(kind2, row->from, sizeof kind2);
+}
+
 /*
  * Makes the calls. Of the row all sessions but the last are open; an event changes no
  * other than that one, so that it alone is put back. The totals are those of the row.
@@ -246,7 +274,8 @@ static uint8_t said[SAID]; /* by the last call */
 static void run(const struct who *who, const struct row *row, unsigned long times)
 {
     void *const at[BUFFERS] = {
-        [RECORD] = record, [AREA] = (void *)row->area->octets, [ROOM] = room, [ROW] = sessions};
+        [RECORD] = record, [AREA] = (void *)row->area->octets, [ROOM] = room, [ROW] = sessions,
+        [KIND1] = kind1, [KIND2] = kind2};
     struct given given = row->given;
     given.limits = limits;
     given.settings = settings;
@@ -254,6 +283,9 @@ static void run(const struct who *who, const struct row *row, unsigned long time
     given.lent[RECORD].length = sizeof record;
     given.lent[AREA].length = row->area->length;
     given.lent[ROOM].length = sizeof room;
+    given.lent[KIND1].length = sizeof kind1;
+    given.lent[KIND2].length = sizeof kind2;
+    prepare_move(row);
     for (size_t i = 0; i < given.at; i++)
         sessions[i] = tacit_load(opened, sizeof opened).session;
     sessions[given.at] = given.session;
@@ -276,6 +308,7 @@ static void run(const struct who *who, const struct row *row, unsigned long time
 /* All that a call leaves and says. */
 struct left {
     uint8_t said[SAID], record[TACIT_RECORD_LENGTH], room[TACIT_MESSAGE_LENGTH];
+    uint8_t kind1[TACIT_KIND1_LENGTH], kind2[TACIT_RECORD_LENGTH];
     uint8_t row[TACIT_ROW_MOST * SESSION_OCTETS];
 };
 
@@ -286,6 +319,8 @@ static void run_once(const struct who *who, const struct row *row, struct left *
     memcpy(left->said, said, sizeof said);
     memcpy(left->record, record, sizeof record);
     memcpy(left->room, room, sizeof room);
+    memcpy(left->kind1, kind1, sizeof kind1);
+    memcpy(left->kind2, kind2, sizeof kind2);
     for (size_t i = 0; i < TACIT_ROW_MOST; i++)
         put_session(left->row + SESSION_OCTETS * i, &sessions[i]);
 }

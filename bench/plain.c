@@ -3,7 +3,7 @@
  *
  * What a call takes is measured by this one (bench), and the comparison has it for a
  * third opinion (tests/compare). The rules are those of document 01, of the requests
- * L1 to L4 and of tacit.h; no code is shared with the library or the second program.
+ * L1 to L5 and of tacit.h; no code is shared with the library or the second program.
  */
 #include "calls.h"
 
@@ -190,14 +190,20 @@ static inline unsigned used(const struct tacit_session *session)
     return session->enabled & session->listed;
 }
 
-static inline unsigned permitted_kinds(const struct tacit_session *session)
+/* The kinds that a session permits as far as no capability is asked for. */
+static inline unsigned permitted_but_for_capabilities(const struct tacit_session *session)
 {
     if (session->state != TACIT_OPEN)
         return 0;
     unsigned kinds = TACIT_ALL_KINDS;
     if (session->flags & TACIT_FLAG_IN_FORCE)
         kinds = opened_by(used(session), session->protects);
-    return kinds & ~controlled_by(session->disabled) & allowed_by(session->ours & session->theirs);
+    return kinds & ~controlled_by(session->disabled);
+}
+
+static inline unsigned permitted_kinds(const struct tacit_session *session)
+{
+    return permitted_but_for_capabilities(session) & allowed_by(session->ours & session->theirs);
 }
 
 static inline uint8_t why_not(const struct tacit_session *session, unsigned kind)
@@ -226,16 +232,14 @@ static inline uint16_t retry_interval(const struct tacit_session *session)
 /* Its numbers have the least significant octet first, as this machine's have. */
 _Static_assert(__BYTE_ORDER__ == __ORDER_LITTLE_ENDIAN__, "numbers are copied");
 
-/* How many octets follow these two, but for the capabilities, and the kind of record. */
-static const uint8_t record_head[4] = {20, 0, 1, 0};
+/* How many octets follow these two, and the kind of record. */
+static const uint8_t record_head[4] = {22, 0, 2, 0}, kind1_head[4] = {20, 0, 1, 0};
 
-/* Reads a record; false if it is not sound. */
-static inline bool read_record(struct tacit_session *session, const uint8_t *record,
-                               size_t record_len)
+/* Reads what both kinds have, octets 4 to 21; false if another head stands before it. */
+static inline bool read_common(struct tacit_session *session, const uint8_t *record,
+                               const uint8_t *head)
 {
-    if (record_len != TACIT_RECORD_LENGTH)
-        return false;
-    if (memcmp(record, record_head, sizeof record_head) != 0 || record[13] != 0)
+    if (memcmp(record, head, sizeof record_head) != 0 || record[13] != 0)
         return false;
     session->state = record[4];
     session->flags = record[5];
@@ -245,8 +249,28 @@ static inline bool read_record(struct tacit_session *session, const uint8_t *rec
     session->disabled = record[12];
     memcpy(&session->hello, record + 14, 4);
     memcpy(&session->next, record + 18, 4);
+    return true;
+}
+
+/* Reads a record; false if it is not sound. */
+static inline bool read_record(struct tacit_session *session, const uint8_t *record,
+                               size_t record_len)
+{
+    if (record_len != TACIT_RECORD_LENGTH || !read_common(session, record, record_head))
+        return false;
     session->ours = record[22];
     session->theirs = record[23];
+    return is_sound(session);
+}
+
+/* Reads a record of kind 1, which has no capabilities; false if it is not sound. */
+static inline bool read_kind1(struct tacit_session *session, const uint8_t *record,
+                              size_t record_len)
+{
+    if (record_len != TACIT_KIND1_LENGTH || !read_common(session, record, kind1_head))
+        return false;
+    session->ours = 0;
+    session->theirs = 0;
     return is_sound(session);
 }
 
@@ -825,6 +849,41 @@ struct tacit_reason plain_why_not(const uint8_t *record, size_t record_len, uint
     if (kind >= TACIT_KINDS)
         return (struct tacit_reason){.refusal = TACIT_REFUSED_NUMBER};
     return (struct tacit_reason){.reason = why_not(&session, kind)};
+}
+
+/* ---------------------------------------------------------------------- */
+/* Records of kind 1                                                       */
+/* ---------------------------------------------------------------------- */
+
+/* The octets that both kinds have behind their heads. */
+static inline void copy_common(uint8_t *to, const uint8_t *from, const uint8_t *head)
+{
+    memcpy(to, head, sizeof record_head);
+    memcpy(to + 4, from + 4, TACIT_KIND1_LENGTH - 4);
+}
+
+struct tacit_moved plain_forward(const uint8_t *kind1, size_t kind1_len, uint8_t *kind2,
+                                 size_t kind2_len)
+{
+    struct tacit_session session;
+    if (!read_kind1(&session, kind1, kind1_len) || kind2_len != TACIT_RECORD_LENGTH)
+        return (struct tacit_moved){.refusal = TACIT_REFUSED_NOT_SOUND};
+    copy_common(kind2, kind1, record_head);
+    kind2[22] = 0;
+    kind2[23] = 0;
+    unsigned before = permitted_but_for_capabilities(&session);
+    return (struct tacit_moved){.lost = (uint16_t)(before & ~allowed_by(0))};
+}
+
+uint8_t plain_back(const uint8_t *kind2, size_t kind2_len, uint8_t *kind1, size_t kind1_len)
+{
+    struct tacit_session session;
+    if (!read_record(&session, kind2, kind2_len) || kind1_len != TACIT_KIND1_LENGTH)
+        return TACIT_REFUSED_NOT_SOUND;
+    if ((session.ours | session.theirs) != 0)
+        return TACIT_REFUSED_CAPABILITIES;
+    copy_common(kind1, kind2, kind1_head);
+    return TACIT_NOT_REFUSED;
 }
 
 /* ---------------------------------------------------------------------- */

@@ -17,7 +17,8 @@
  * every call, and may store it or copy it as you like. The library keeps
  * nothing between calls, allocates nothing and calls nothing, not even libc.
  * Calls on different records may run at once; calls on one record may not,
- * unless none of them writes it.
+ * unless none of them writes it. Records that an older version stored are moved
+ * first: see "Records of kind 1".
  *
  * A daemon with limits on how many sessions use an application, or one that asks
  * before a batch of labels how many sessions may get them, keeps its sessions in
@@ -50,7 +51,8 @@
  *
  * - Each pointer is good for the length that goes with it.
  * - The buffers of one call do not overlap where one of them is written: the
- *   record or the row, the row's totals, the area, and the room.
+ *   record or the row, the two records of a move, the row's totals, the area, and
+ *   the room.
  * - A row of sessions is aligned as C aligns an array of them.
  * - A bool is made by C: true or false, not an octet copied from elsewhere.
  */
@@ -73,10 +75,11 @@ extern "C" {
 /* ------------------------------------------------------------------------ */
 
 /* The version of this header and its library, to be compared, and for a log. */
-#define TACIT_VERSION      40000 /* 4.0.0: two digits for each number behind the first */
-#define TACIT_VERSION_TEXT "4.0.0"
+#define TACIT_VERSION      50000 /* 5.0.0: two digits for each number behind the first */
+#define TACIT_VERSION_TEXT "5.0.0"
 
 #define TACIT_RECORD_LENGTH  24   /* octets of a record */
+#define TACIT_KIND1_LENGTH   22   /* octets of a record of kind 1, as older versions had it */
 #define TACIT_MESSAGE_LENGTH 17   /* octets of the message of a local change */
 #define TACIT_WISH_LENGTH    14   /* octets of the message of a wish */
 #define TACIT_MESSAGE_AREA    8   /* where in either the parameter area starts, to its end */
@@ -92,38 +95,42 @@ extern "C" {
  * is so.
  */
 enum tacit_refusal {
-    TACIT_NOT_REFUSED         = 0,
-    TACIT_REFUSED_AREA        = 1,  /* the area has more than 4,096 octets */
-    TACIT_REFUSED_CUT_SHORT   = 2,  /* too few octets for the head of a TLV (1 to 3), or
-                                       fewer behind it than its length says */
-    TACIT_REFUSED_LENGTH      = 3,  /* a TAC whose length is not 1, 5, 9, ..; a SAC of
-                                       length 0 or 1; a Dynamic Capability Announcement
-                                       or a P2MP, MP2MP or HSMP capability of a length
-                                       other than 1 */
-    TACIT_REFUSED_TYPE        = 4,  /* a type that we do not read and may not pass over:
-                                       U is 0, and it is not in 0x0500 to 0x05FF */
-    TACIT_REFUSED_REPEATED    = 5,  /* TAC, SAC, Dynamic or one of the three capabilities
-                                       stands there twice */
-    TACIT_REFUSED_NUMBER      = 6,  /* not a TA-Id (1 to 13), not a kind (0 to 9), or a set
-                                       with a bit that is none of these; at creation,
-                                       wishes with a bit that is no App's, or
-                                       capabilities with one beyond the three */
-    TACIT_REFUSED_STATE       = 7,  /* the event is not for the state of the session */
-    TACIT_REFUSED_ROOM        = 8,  /* there is something to write, and fewer octets of room
-                                       than it has: 17 for a local change, 14 for a
-                                       wish, 6 to 9 for the SAC of an Initialization */
-    TACIT_REFUSED_NOT_DYNAMIC = 9,  /* there is a message to write, and the peer takes no
-                                       Capability messages */
-    TACIT_REFUSED_NOT_SOUND   = 10, /* the record, the session or any session of the row
-                                       is not sound (see tacit_sound); at creation and
-                                       at tacit_store, record_len is not 24; kept
-                                       wishes with a bit that is no App's */
-    TACIT_REFUSED_ROW         = 11, /* the row is empty or has more than 64 sessions, or
-                                       the row number is outside it */
-    TACIT_REFUSED_LIMIT       = 12, /* a limit to be set is over 64 */
-    TACIT_REFUSED_APP         = 15, /* not a SAC App (1 to 4) */
-    TACIT_REFUSED_TOTAL       = 16  /* the event would take a total outside 0 to 64: the
-                                       totals are not those of this row */
+    TACIT_NOT_REFUSED          = 0,
+    TACIT_REFUSED_AREA         = 1,  /* the area has more than 4,096 octets */
+    TACIT_REFUSED_CUT_SHORT    = 2,  /* too few octets for the head of a TLV (1 to 3), or
+                                        fewer behind it than its length says */
+    TACIT_REFUSED_LENGTH       = 3,  /* a TAC whose length is not 1, 5, 9, ..; a SAC of
+                                        length 0 or 1; a Dynamic Capability Announcement
+                                        or a P2MP, MP2MP or HSMP capability of a length
+                                        other than 1 */
+    TACIT_REFUSED_TYPE         = 4,  /* a type that we do not read and may not pass over:
+                                        U is 0, and it is not in 0x0500 to 0x05FF */
+    TACIT_REFUSED_REPEATED     = 5,  /* TAC, SAC, Dynamic or one of the three capabilities
+                                        stands there twice */
+    TACIT_REFUSED_NUMBER       = 6,  /* not a TA-Id (1 to 13), not a kind (0 to 9), or a set
+                                        with a bit that is none of these; at creation,
+                                        wishes with a bit that is no App's, or
+                                        capabilities with one beyond the three */
+    TACIT_REFUSED_STATE        = 7,  /* the event is not for the state of the session */
+    TACIT_REFUSED_ROOM         = 8,  /* there is something to write, and fewer octets of room
+                                        than it has: 17 for a local change, 14 for a
+                                        wish, 6 to 9 for the SAC of an Initialization */
+    TACIT_REFUSED_NOT_DYNAMIC  = 9,  /* there is a message to write, and the peer takes no
+                                        Capability messages */
+    TACIT_REFUSED_NOT_SOUND    = 10, /* the record, the session or any session of the row
+                                        is not sound (see tacit_sound, for kind 1
+                                        tacit_forward); the room for a new record is
+                                        not of its size: 24 octets, or 22 at tacit_back;
+                                        kept wishes with a bit that is no App's */
+    TACIT_REFUSED_ROW          = 11, /* the row is empty or has more than 64 sessions, or
+                                        the row number is outside it */
+    TACIT_REFUSED_LIMIT        = 12, /* a limit to be set is over 64 */
+    TACIT_REFUSED_CAPABILITIES = 13, /* tacit_back: a capability is held, ours or the
+                                        peer's, and a record of kind 1 has no place for
+                                        it */
+    TACIT_REFUSED_APP          = 15, /* not a SAC App (1 to 4) */
+    TACIT_REFUSED_TOTAL        = 16  /* the event would take a total outside 0 to 64: the
+                                        totals are not those of this row */
 };
 
 /* What an event came to. */
@@ -251,13 +258,12 @@ enum tacit_sac_app {
 /* ------------------------------------------------------------------------ */
 
 /*
- * 24 octets, the same on every machine: the stored record, octets 0 to 21, and
- * beside it the capabilities of both ends. Numbers of more than one octet have the
- * least significant octet first.
+ * A record of kind 2: 24 octets, the same on every machine, stored as they are.
+ * Numbers of more than one octet have the least significant octet first.
  *
  *    octet   holds
- *    0, 1    20, the number of octets of the stored record that follow these two
- *    2, 3    1, the kind of record
+ *    0, 1    22, the number of octets that follow these two
+ *    2, 3    2, the kind of record
  *    4       the state (enum tacit_state_number)
  *    5       flags (enum tacit_flag)
  *    6, 7    the applications enabled at this end
@@ -273,12 +279,9 @@ enum tacit_sac_app {
  * Read it if you must, but write it only through the calls: what you write by
  * hand may be refused as not sound.
  *
- * Octets 0 to 21 are as they were before version 4, when a record had no others. Such
- * a record of 22 octets is refused with 10: lengthen it by two octets of 0. It is then
- * a session that holds no capability and permits none of kinds 2 to 6, also one that
- * was stored Open. A peer is known to hold a capability once a Capability message
- * announces it or the session opens anew; but ours are fixed at creation, so that
- * only a session created anew, with settings that name them, permits these kinds.
+ * A record of kind 1 is 22 octets: 20 in octets 0 and 1, 1 in octets 2 and 3, octets 4
+ * to 21 as above, and no more. Every call refuses it with 10 but tacit_forward, which
+ * makes it one of kind 2: see "Records of kind 1".
  */
 enum tacit_flag {
     TACIT_FLAG_INITIATING     = 0x01,  /* this end began the extended discovery */
@@ -373,6 +376,12 @@ struct tacit_kinds {
 struct tacit_retry {
     uint8_t refusal;
     uint16_t interval;  /* in seconds: 65,535 in Held, 0 in every other state */
+};
+
+/* What a record moved forward, from kind 1 to kind 2, has lost by it. */
+struct tacit_moved {
+    uint8_t refusal;
+    uint16_t lost;  /* kinds permitted before and not after: withdraw their labels */
 };
 
 /*
@@ -512,6 +521,9 @@ TACIT_ASSERT(offsetof(struct tacit_kinds, kinds) == 2);
 TACIT_ASSERT(sizeof(struct tacit_retry) == 4);
 TACIT_ASSERT(offsetof(struct tacit_retry, refusal) == 0);
 TACIT_ASSERT(offsetof(struct tacit_retry, interval) == 2);
+TACIT_ASSERT(sizeof(struct tacit_moved) == 4);
+TACIT_ASSERT(offsetof(struct tacit_moved, refusal) == 0);
+TACIT_ASSERT(offsetof(struct tacit_moved, lost) == 2);
 TACIT_ASSERT(sizeof(struct tacit_session) == 20);
 TACIT_ASSERT(offsetof(struct tacit_session, state) == 0);
 TACIT_ASSERT(offsetof(struct tacit_session, flags) == 1);
@@ -784,9 +796,74 @@ struct tacit_retry tacit_retry_interval(const uint8_t *record, size_t record_len
  *   initiates and drops);
  * - a session in Gone is active, initiates and drops, and has no Hello recorded.
  *
- * Every record that tacit_create or an event leaves, from a sound one, is sound.
+ * Every record that tacit_create, tacit_forward or an event leaves, from a sound one,
+ * is sound.
  */
 bool tacit_sound(const uint8_t *record, size_t record_len);
+
+/* ------------------------------------------------------------------------ */
+/* Records of kind 1                                                         */
+/* ------------------------------------------------------------------------ */
+
+/*
+ * Up to version 3 a record was of kind 1, and had no place for capabilities. It is
+ * sound by all that tacit_sound asks of octets 4 to 21.
+ *
+ * The upgrade. Before any other call for a session, a daemon that finds records of kind
+ * 1 in its store does this with each: it reads the 22 octets, moves them into 24 by
+ * tacit_forward, withdraws the labels of the kinds lost, and stores the 24 octets in
+ * their place. Since it stores last, a record whose labels are not yet withdrawn is
+ * found as kind 1 once more after a crash. A record that is refused is damaged: close
+ * its connection, if there is one, and create the session anew. Rows are loaded from the
+ * records moved, and their totals counted then.
+ *
+ * A session moved is as it was, but that neither end holds a capability: one that was
+ * stored Open stays Open and permits none of kinds 2 to 6 any more. The peer's
+ * capabilities are known again once a Capability message of the peer announces them,
+ * or the session opens anew. Ours are fixed at creation: for a session that is to
+ * permit these kinds again, make a new record by tacit_create, with settings that name
+ * its capabilities, and open anew.
+ *
+ * Version 4.0.0 had 24 octets that began as kind 1 does, with 20 and 1. To take over
+ * such a record with its capabilities, write 22 into octet 0 and 2 into octet 2, and
+ * ask tacit_sound: the rest of it is as in kind 2, and nothing is lost. Its first 22
+ * octets are a record of kind 1 as well; moved forward, they give the session without
+ * its capabilities.
+ *
+ * The way back. A daemon that must return to a version before 4 moves each record into
+ * 22 octets by tacit_back, and stores those. Refused with 13, the session holds a
+ * capability that the older version cannot know of. The peer's are forgotten when the
+ * session leaves Open: close it, and move it then. With one of ours there is no way
+ * back for the record; create the session anew under the older version. Mind that
+ * versions before 4 ask for no capability: an Open session moved back permits there,
+ * besides what it permits here, the kinds that tacit_forward would report as lost. A
+ * return to 4.0.0 needs no move: write 20 into octet 0 and 1 into octet 2.
+ */
+
+/*
+ * Moves a record of kind 1 forward: the 24 octets of kind2 are then the same session
+ * as a record of kind 2, with no capability at either end.
+ *
+ * lost: for an Open session, those of kinds 2 to 6 that versions before 4 permitted, for
+ * which no capability was needed: all five where negotiation is not in force, else those
+ * that some application opens which is both enabled here and listed by the peer. 0 in
+ * every other state. It is the same for a record that tacit_back made, though its session
+ * permitted none of these kinds here.
+ *
+ * Refusals: 10, where kind1 is not a sound record of kind 1, exactly 22 octets long, or
+ * kind2_len is not 24. Refused, the room is as it was.
+ */
+struct tacit_moved tacit_forward(const uint8_t *kind1, size_t kind1_len, uint8_t *kind2,
+                                 size_t kind2_len);
+
+/*
+ * Moves a record of kind 2 back: the 22 octets of kind1 are then the same session as a
+ * record of kind 1. Moved forward again it gives the record that it was.
+ *
+ * Returns the refusal: 10, where kind2 is not sound (see tacit_sound) or kind1_len is
+ * not 22; then 13, where octet 22 or 23 is not 0. Refused, the room is as it was.
+ */
+uint8_t tacit_back(const uint8_t *kind2, size_t kind2_len, uint8_t *kind1, size_t kind1_len);
 
 /* ------------------------------------------------------------------------ */
 /* Rows of sessions                                                          */
@@ -1000,9 +1077,11 @@ static inline const char *tacit_refusal_text(uint32_t refusal)
     case TACIT_REFUSED_ROOM: return "too little room for what is to be written";
     case TACIT_REFUSED_NOT_DYNAMIC: return "peer takes no Capability messages";
     case TACIT_REFUSED_NOT_SOUND:
-        return "record, session or wishes not sound, or record not of 24 octets";
+        return "record, session or wishes not sound, or record not of its size";
     case TACIT_REFUSED_ROW: return "row empty or over 64 sessions, or row number outside it";
     case TACIT_REFUSED_LIMIT: return "limit over 64";
+    case TACIT_REFUSED_CAPABILITIES:
+        return "capability held, and a record of kind 1 has no place for it";
     case TACIT_REFUSED_APP: return "no SAC App";
     case TACIT_REFUSED_TOTAL: return "total outside 0 to 64: the totals are not those of the row";
     default: return "unknown";

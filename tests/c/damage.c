@@ -6,6 +6,16 @@
 
 #define APP(n) TACIT_APP_SET(n)
 
+/* As it is, and with octets 4 to 21 as those of a record of kind 1. */
+static void both_moves(const struct record *original)
+{
+    const struct record old = kind1_for(original);
+    struct record kind1 = {{7}, TACIT_KIND1_LENGTH}, kind2 = {{7}, TACIT_RECORD_LENGTH};
+    back(original, &kind1);
+    forward(original, &kind2);
+    forward(&old, &kind2);
+}
+
 static void every_call(const struct record *original)
 {
     struct octets area = hex("85060001 80 850F0009 80 00040000 00078000 850D0003 80 C0 10"
@@ -31,16 +41,17 @@ static void every_call(const struct record *original)
     hello(&record, 9);
     record = *original;
     closed(&record);
+    both_moves(original);
 }
 
 /* Each octet of four sound records at each of its values. */
 static void records(void)
 {
     static const char *const rows[] = {
-        "1400 0100 00 47 4800 0000 0000 00 00 05000000 01000000 00 00",
-        "1400 0100 01 37 4800 4000 0300 09 00 00000000 FFFFFFFF 07 05",
-        "1400 0100 02 47 4800 0000 0000 00 00 05000000 01000000 07 00",
-        "1400 0100 03 0F 4800 0000 0000 00 00 00000000 01000000 00 00",
+        "1600 0200 00 47 4800 0000 0000 00 00 05000000 01000000 00 00",
+        "1600 0200 01 37 4800 4000 0300 09 00 00000000 FFFFFFFF 07 05",
+        "1600 0200 02 47 4800 0000 0000 00 00 05000000 01000000 07 00",
+        "1600 0200 03 0F 4800 0000 0000 00 00 00000000 01000000 00 00",
     };
     for (size_t row = 0; row < sizeof rows / sizeof *rows; row++) {
         struct record original = record_of(rows[row]);
@@ -69,7 +80,7 @@ static void records_without_order(void)
 {
     for (int i = 0; i < 2000; i++) {
         struct record record =
-            record_of("1400 0100 00 00 0000 0000 0000 00 00 00000000 00000000 00 00");
+            record_of("1600 0200 00 00 0000 0000 0000 00 00 00000000 00000000 00 00");
         trying("record %d without order", i);
         for (size_t at = i % 2 ? 4 : 0; at < TACIT_RECORD_LENGTH; at++)
             record.octets[at] = (uint8_t)any_number();
@@ -226,10 +237,10 @@ static struct tacit_answer any_event(struct sessions *row, size_t at)
 static void sessions(void)
 {
     static const char *const rows[] = {
-        "1400 0100 00 47 4800 0000 0000 00 00 05000000 01000000 00 00",
-        "1400 0100 01 37 4800 4000 0300 09 00 00000000 FFFFFFFF 07 05",
-        "1400 0100 02 47 4800 0000 0000 00 00 05000000 01000000 07 00",
-        "1400 0100 03 0F 4800 0000 0000 00 00 00000000 01000000 00 00",
+        "1600 0200 00 47 4800 0000 0000 00 00 05000000 01000000 00 00",
+        "1600 0200 01 37 4800 4000 0300 09 00 00000000 FFFFFFFF 07 05",
+        "1600 0200 02 47 4800 0000 0000 00 00 05000000 01000000 07 00",
+        "1600 0200 03 0F 4800 0000 0000 00 00 00000000 01000000 00 00",
     };
     struct record other = opened(APP(4) | APP(7), "85060001 80 850F0005 80 00048000");
     for (size_t row = 0; row < sizeof rows / sizeof *rows; row++) {

@@ -132,7 +132,7 @@ static void stored(void)
 {
     struct record record = holding(0, APP(4) | APP(7));
     struct record wanted =
-        record_of("1400 0100 00 07 4800 0000 0000 00 00 00000000 01000000 00 00");
+        record_of("1600 0200 00 07 4800 0000 0000 00 00 00000000 01000000 00 00");
     CHECK(wanted.length == TACIT_RECORD_LENGTH && same_record(&record, &wanted));
 }
 
@@ -147,22 +147,22 @@ static void stored_on(void)
                                          .first_number = 0x01020304,
                                          .capabilities = 5}) == 0);
     hello(&record, 0xA1B2C3D4);
-    wanted = record_of("1400 0100 00 47 C000 0000 0202 00 00 D4C3B2A1 04030201 05 00");
+    wanted = record_of("1600 0200 00 47 C000 0000 0202 00 00 D4C3B2A1 04030201 05 00");
     CHECK(same_record(&record, &wanted));
     initialization_text(&record, "85060001 80 850D0002 80 90 850F0009 80 00088000 000D8000"
                                  "85090001 00 89020001 80");
-    wanted = record_of("1400 0100 01 77 C000 8010 0202 01 00 D4C3B2A1 04030201 05 06");
+    wanted = record_of("1600 0200 01 77 C000 8010 0202 01 00 D4C3B2A1 04030201 05 06");
     CHECK(same_record(&record, &wanted));
     CHECK(kinds(&record) == (KIND(1) | KIND(9)));
     uint8_t room[17] = {0};
     local_change(&record, 13, true, room, sizeof room);
-    wanted = record_of("1400 0100 01 77 C010 8010 0202 01 00 D4C3B2A1 05030201 05 06");
+    wanted = record_of("1600 0200 01 77 C010 8010 0202 01 00 D4C3B2A1 05030201 05 06");
     CHECK(same_record(&record, &wanted));
     mismatch(&record);
-    wanted = record_of("1400 0100 02 47 C010 0000 0202 00 00 D4C3B2A1 05030201 05 00");
+    wanted = record_of("1600 0200 02 47 C010 0000 0202 00 00 D4C3B2A1 05030201 05 00");
     CHECK(same_record(&record, &wanted));
     hello(&record, 0xA1B2C3D5);
-    wanted = record_of("1400 0100 00 47 C010 0000 0202 00 00 D5C3B2A1 05030201 05 00");
+    wanted = record_of("1600 0200 00 47 C010 0000 0202 00 00 D5C3B2A1 05030201 05 00");
     CHECK(same_record(&record, &wanted));
 }
 

@@ -523,6 +523,7 @@ int main(void)
     totals();
     wishes();
     capabilities();
+    moves();
     refusals();
     lengths();
     numbers();
@@ -537,6 +538,7 @@ int main(void)
     totals();
     wishes();
     capabilities();
+    moves();
     refusals();
     lengths();
     numbers();

@@ -180,6 +180,24 @@ struct tacit_want is_wanted(uint32_t wishes, uint32_t kind);
 /* The kind that an App controls, 1 to 4, without the library. */
 uint32_t kind_of(uint32_t app);
 
+/* ---- Records of kind 1 ---- */
+
+/*
+ * Moves a record into the room of this length, whatever stands there. Both must come to
+ * what the header says of any call, with the record read and a room refused as they were.
+ */
+struct tacit_moved forward(const struct record *kind1, struct record *room);
+uint8_t back(const struct record *kind2, struct record *room);
+
+/* The record of the other kind with the same octets 4 to 21, and no capabilities. */
+struct record kind2_for(const struct record *kind1);
+struct record kind1_for(const struct record *kind2);
+
+bool sound_kind1(const struct record *kind1);
+
+/* The kinds that a session moved forward loses, without the library. */
+uint32_t lost_by_move(struct tacit_session session);
+
 /* ---- Numbers without order ---- */
 
 /* The same ones in every run. */
@@ -193,6 +211,7 @@ void rows(void);
 void totals(void);
 void wishes(void);
 void capabilities(void);
+void moves(void);
 void refusals(void);
 void lengths(void);
 void numbers(void);

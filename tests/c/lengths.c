@@ -29,6 +29,8 @@ static void nothing_at_all(void)
     CHECK(tacit_permitted_kinds(NULL, 0).refusal == 10);
     CHECK(tacit_why_not(NULL, 0, 0).refusal == 10);
     CHECK(tacit_retry_interval(NULL, 0).refusal == 10);
+    CHECK(tacit_forward(NULL, 0, NULL, 0).refusal == 10);
+    CHECK(tacit_back(NULL, 0, NULL, 0) == 10);
     CHECK(!tacit_sound(NULL, 0));
     CHECK(tacit_state(NULL, 0) == TACIT_NO_STATE);
 
@@ -93,7 +95,8 @@ static void records(void)
         CHECK(why_not(&original, 8).refusal == wanted);
         CHECK(retry_interval(&original).refusal == wanted);
         CHECK(load(&original).refusal == wanted);
-        struct record record = original;
+        struct record record = original, kind1 = {{0}, TACIT_KIND1_LENGTH};
+        CHECK(back(&original, &kind1) == (right ? 13 : 10)); /* all three are ours */
         CHECK(store(session_in(&original), &record) == wanted);
         CHECK(capability_text(&record, "").refusal == wanted);
         record = original;
@@ -381,6 +384,24 @@ static void beyond_32_bits(void)
     munmap(octets, more + 4096);
 }
 
+static void moves_beyond_32_bits(void)
+{
+    uint8_t *octets = lend_more();
+    if (octets == NULL)
+        return;
+    const struct octets old = hex("1400 0100 00 07 4800 0000 0000 00 00 00000000 01000000");
+    uint8_t *kind1 = octets, *kind2 = octets + 1024, room[TACIT_RECORD_LENGTH] = {0};
+    memcpy(kind1, old.at, old.length);
+    CHECK(tacit_forward(kind1, more + 22, room, 24).refusal == 10 && room[0] == 0);
+    CHECK(tacit_forward(kind1, 22, kind2, more + 24).refusal == 10 && kind2[0] == 0);
+    CHECK(tacit_forward(kind1, 22, kind2, 24).refusal == 0 && kind2[0] == 22);
+    CHECK(tacit_back(kind2, more + 24, room, 22) == 10 && room[0] == 0);
+    kind1[0] = 0;
+    CHECK(tacit_back(kind2, 24, kind1, more + 22) == 10 && kind1[0] == 0);
+    CHECK(tacit_back(kind2, 24, kind1, 22) == 0 && same(kind1, old.at, old.length));
+    munmap(octets, more + 4096);
+}
+
 static void rows_beyond_32_bits(void)
 {
     uint8_t *octets = lend_more();
@@ -423,5 +444,6 @@ void lengths(void)
     test("rooms of 0 to 40 octets, for wishes", rooms_of_wishes);
     test("rooms of 0 to 40 octets, for the SAC of an Initialization", rooms_of_sacs);
     test("lengths beyond 32 bits", beyond_32_bits);
+    test("lengths beyond 32 bits, of moves", moves_beyond_32_bits);
     test("lengths beyond 32 bits, in rows", rows_beyond_32_bits);
 }

@@ -1,5 +1,5 @@
 // The header in C++17, its assertions on sizes included: a session, a row with totals, a wish,
-// a capability.
+// a capability, a record of kind 1.
 #include "tacit.h"
 
 #include <cstring>
@@ -99,6 +99,22 @@ static bool one_capability(uint8_t *record, size_t record_len)
            session.theirs == held && std::strcmp(tacit_capability_text(held), "P2MP") == 0;
 }
 
+// A record of kind 1 moved forward and back, and one that cannot go back.
+static bool one_move(const uint8_t *holding, size_t holding_len)
+{
+    static const uint8_t old[TACIT_KIND1_LENGTH] = {20, 0, 1, 0, 1, 7, 0x48, 0, 0, 0, 0,
+                                                    0,  0, 0, 0, 0, 0, 0,    1, 0, 0, 0};
+    uint8_t moved[TACIT_RECORD_LENGTH], again[TACIT_KIND1_LENGTH] = {};
+    const tacit_moved answer = tacit_forward(old, sizeof old, moved, sizeof moved);
+    if (answer.refusal != 0 || answer.lost != 0x7C || !tacit_sound(moved, sizeof moved))
+        return false;
+    if (tacit_back(holding, holding_len, again, sizeof again) != TACIT_REFUSED_CAPABILITIES ||
+        again[0] != 0)
+        return false;
+    return tacit_back(moved, sizeof moved, again, sizeof again) == 0 &&
+           std::memcmp(again, old, sizeof old) == 0;
+}
+
 int main()
 {
     uint8_t record[TACIT_RECORD_LENGTH], stored[TACIT_RECORD_LENGTH];
@@ -115,7 +131,7 @@ int main()
         return 1;
     return one_row(record, sizeof record) && one_session(record, sizeof record) &&
                    one_wish(record, sizeof record, settings.wishes) &&
-                   one_capability(record, sizeof record)
+                   one_capability(record, sizeof record) && one_move(record, sizeof record)
                ? 0
                : 1;
 }

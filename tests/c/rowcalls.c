@@ -34,7 +34,7 @@ static uint32_t get(const uint8_t *octets, int count)
 
 struct record record_for(struct tacit_session session)
 {
-    struct record record = {{20, 0, 1, 0, session.state, session.flags}, TACIT_RECORD_LENGTH};
+    struct record record = {{22, 0, 2, 0, session.state, session.flags}, TACIT_RECORD_LENGTH};
     put(record.octets + 6, session.enabled, 2);
     put(record.octets + 8, session.listed, 2);
     put(record.octets + 10, session.protects, 2);

@@ -66,30 +66,30 @@ static const struct {
     uint16_t kinds;
     const char *record;
 } sorts[] = {
-    {0x101, "1400 0100 01 14 4800 4800 0000 00 00 00000000 01000000 00 00"},
-    {0x100, "1400 0100 01 34 4800 4800 0000 01 00 00000000 01000000 07 07"},
+    {0x101, "1600 0200 01 14 4800 4800 0000 00 00 00000000 01000000 00 00"},
+    {0x100, "1600 0200 01 34 4800 4800 0000 01 00 00000000 01000000 07 07"},
     /* Out of force all ten, but for what is disabled. */
-    {0x3FF, "1400 0100 01 04 4800 0000 0000 00 00 00000000 01000000 07 07"},
-    {0x3FF, "1400 0100 01 00 0000 0000 0000 00 00 00000000 01000000 07 07"},
-    {0x27C, "1400 0100 01 00 4800 0000 0000 0F 00 00000000 01000000 07 07"},
+    {0x3FF, "1600 0200 01 04 4800 0000 0000 00 00 00000000 01000000 07 07"},
+    {0x3FF, "1600 0200 01 00 0000 0000 0000 00 00 00000000 01000000 07 07"},
+    {0x27C, "1600 0200 01 00 4800 0000 0000 0F 00 00000000 01000000 07 07"},
     /* Enabled or listed alone is not enough; of all thirteen, three are common, then all. */
-    {0x001, "1400 0100 01 14 4800 0800 0000 00 00 00000000 01000000 00 00"},
-    {0x100, "1400 0100 01 14 4000 4800 0000 00 00 00000000 01000000 00 00"},
-    {0x0FC, "1400 0100 01 14 FF1F 2404 0000 00 00 00000000 01000000 07 07"},
-    {0x3FF, "1400 0100 01 14 FF1F FF1F 0000 00 00 00000000 01000000 07 07"},
+    {0x001, "1600 0200 01 14 4800 0800 0000 00 00 00000000 01000000 00 00"},
+    {0x100, "1600 0200 01 14 4000 4800 0000 00 00 00000000 01000000 00 00"},
+    {0x0FC, "1600 0200 01 14 FF1F 2404 0000 00 00 00000000 01000000 07 07"},
+    {0x3FF, "1600 0200 01 14 FF1F FF1F 0000 00 00 00000000 01000000 07 07"},
     /* The protected kinds by 8; none by 9. */
-    {0x202, "1400 0100 01 14 8000 8000 0202 00 00 00000000 01000000 00 00"},
-    {0x000, "1400 0100 01 14 0001 0001 FF03 00 00 00000000 01000000 07 07"},
+    {0x202, "1600 0200 01 14 8000 8000 0202 00 00 00000000 01000000 00 00"},
+    {0x000, "1600 0200 01 14 0001 0001 FF03 00 00 00000000 01000000 07 07"},
     /* Of kinds 2 to 6 those whose capability both hold: none, P2MP, MP2MP, P2MP and HSMP. */
-    {0x383, "1400 0100 01 00 4800 0000 0000 00 00 00000000 01000000 07 00"},
-    {0x387, "1400 0100 01 04 4800 0000 0000 00 00 00000000 01000000 07 01"},
-    {0x39B, "1400 0100 01 04 4800 0000 0000 00 00 00000000 01000000 03 06"},
-    {0x0E4, "1400 0100 01 14 FF1F 2404 0000 00 00 00000000 01000000 05 07"},
-    {0x006, "1400 0100 01 14 8000 8000 7E00 00 00 00000000 01000000 01 01"},
+    {0x383, "1600 0200 01 00 4800 0000 0000 00 00 00000000 01000000 07 00"},
+    {0x387, "1600 0200 01 04 4800 0000 0000 00 00 00000000 01000000 07 01"},
+    {0x39B, "1600 0200 01 04 4800 0000 0000 00 00 00000000 01000000 03 06"},
+    {0x0E4, "1600 0200 01 14 FF1F 2404 0000 00 00 00000000 01000000 05 07"},
+    {0x006, "1600 0200 01 14 8000 8000 7E00 00 00 00000000 01000000 01 01"},
     /* Ready, Held and Gone. */
-    {0x000, "1400 0100 00 04 4800 0000 0000 00 00 00000000 01000000 00 00"},
-    {0x000, "1400 0100 02 06 4800 0000 0000 00 00 00000000 01000000 00 00"},
-    {0x000, "1400 0100 03 0F 4800 0000 0000 00 00 00000000 01000000 00 00"},
+    {0x000, "1600 0200 00 04 4800 0000 0000 00 00 00000000 01000000 00 00"},
+    {0x000, "1600 0200 02 06 4800 0000 0000 00 00 00000000 01000000 00 00"},
+    {0x000, "1600 0200 03 0F 4800 0000 0000 00 00 00000000 01000000 00 00"},
 };
 
 static struct tacit_session of_sort(size_t i)
@@ -171,7 +171,7 @@ struct move {
 #define CHANGE(ta_id, on) {TACIT_EVENT_LOCAL_CHANGE, ta_id, on, 0}
 #define HELLO(number) {TACIT_EVENT_HELLO, 0, 0, number}
 
-static const struct move moves[] = {
+static const struct move movers[] = {
     /* Up on opening. */
     {NULL, EVENT(INITIALIZATION), lists_4, 0, 0x001, TACIT_DONE, TACIT_OPEN},
     {NULL, EVENT(INITIALIZATION), lists_both, 0, 0x101, TACIT_DONE, TACIT_OPEN},
@@ -242,8 +242,8 @@ static bool is_in(uint16_t set, uint32_t kind)
 
 static void up_and_down(void)
 {
-    for (size_t i = 0; i < COUNT(moves); i++) {
-        const struct move *move = &moves[i];
+    for (size_t i = 0; i < COUNT(movers); i++) {
+        const struct move *move = &movers[i];
         trying("move %zu", i);
         struct sessions row = before(move);
         const struct tacit_totals found = row.totals;
@@ -338,14 +338,14 @@ static void expect_edge(const struct move *move, uint32_t kind, uint8_t total, u
 /* Each kind of each move, at each edge. */
 static void at_the_edges(void)
 {
-    for (size_t i = 0; i < COUNT(moves); i++) {
+    for (size_t i = 0; i < COUNT(movers); i++) {
         for (uint32_t kind = 0; kind <= 9; kind++) {
-            bool lost = is_in(moves[i].lost, kind), gained = is_in(moves[i].gained, kind);
+            bool lost = is_in(movers[i].lost, kind), gained = is_in(movers[i].gained, kind);
             if (!lost && !gained)
                 continue;
             for (size_t edge = 0; edge < COUNT(edges); edge++) {
                 trying("move %zu, kind %lu, total %u", i, (unsigned long)kind, edges[edge].total);
-                expect_edge(&moves[i], kind, edges[edge].total,
+                expect_edge(&movers[i], kind, edges[edge].total,
                             lost ? edges[edge].lost : edges[edge].gained);
             }
         }
@@ -355,7 +355,8 @@ static void at_the_edges(void)
 /* Every number that a total can be: lost from 1 to 65, gained from 0 to 63, or 16. */
 static void every_total(void)
 {
-    const struct move opens = moves[0], leaves = {lists_4, EVENT(CLOSED), "", 1, 0, 0, TACIT_READY};
+    const struct move opens = movers[0];
+    const struct move leaves = {lists_4, EVENT(CLOSED), "", 1, 0, 0, TACIT_READY};
     for (unsigned total = 0; total < 256; total++) {
         trying("total %u", total);
         expect_edge(&leaves, 0, (uint8_t)total,

@@ -172,7 +172,7 @@ static void not_stored(void)
                                       .enabled = APP(4) | APP(7),
                                       .first_number = 1};
     struct record wanted =
-        record_of("1400 0100 00 07 4800 0000 0000 00 00 00000000 01000000 00 00");
+        record_of("1600 0200 00 07 4800 0000 0000 00 00 00000000 01000000 00 00");
     for (settings.wishes = 0; settings.wishes < 16; settings.wishes++) {
         struct record record = {{0}, TACIT_RECORD_LENGTH};
         CHECK(create(&record, settings) == 0);

@@ -27,7 +27,7 @@ static void expect_texts(const char *(*text)(uint32_t), uint32_t set)
 
 static void texts(void)
 {
-    expect_texts(tacit_refusal_text, from_to(0, 12) | from_to(15, 16));
+    expect_texts(tacit_refusal_text, from_to(0, 13) | from_to(15, 16));
     expect_texts(tacit_outcome_text, from_to(0, 3));
     expect_texts(tacit_state_text, from_to(0, 3));
     expect_texts(tacit_why_text, from_to(0, 6));
@@ -37,8 +37,10 @@ static void texts(void)
     expect_texts(tacit_sac_app_text, from_to(1, 4));
     CHECK(strcmp(tacit_refusal_text(8), "too little room for what is to be written") == 0);
     CHECK(strcmp(tacit_refusal_text(10),
-                 "record, session or wishes not sound, or record not of 24 octets") == 0);
+                 "record, session or wishes not sound, or record not of its size") == 0);
     CHECK(strcmp(tacit_refusal_text(12), "limit over 64") == 0);
+    CHECK(strcmp(tacit_refusal_text(13),
+                 "capability held, and a record of kind 1 has no place for it") == 0);
     CHECK(strcmp(tacit_refusal_text(15), "no SAC App") == 0);
     CHECK(strcmp(tacit_refusal_text(16),
                  "total outside 0 to 64: the totals are not those of the row") == 0);
@@ -59,14 +61,14 @@ static void texts(void)
 static void names(void)
 {
     CHECK(TACIT_REFUSED_ROW == 11 && TACIT_REFUSED_LIMIT == 12 && TACIT_REFUSED_APP == 15);
-    CHECK(TACIT_REFUSED_TOTAL == 16 && TACIT_KINDS == 10);
+    CHECK(TACIT_REFUSED_CAPABILITIES == 13 && TACIT_REFUSED_TOTAL == 16 && TACIT_KINDS == 10);
     CHECK(TACIT_AT_LIMIT == 3);
     CHECK(TACIT_PERMITTED == 0 && TACIT_NOT_OPEN == 1 && TACIT_DISABLED_BY_PEER == 2);
     CHECK(TACIT_NOT_ENABLED == 3 && TACIT_NOT_LISTED == 4);
     CHECK(TACIT_CAPABILITY_NOT_OURS == 5 && TACIT_CAPABILITY_NOT_THEIRS == 6);
     CHECK(TACIT_CAPABILITY_P2MP == 1 && TACIT_CAPABILITY_MP2MP == 2);
     CHECK(TACIT_CAPABILITY_HSMP == 4 && TACIT_ALL_CAPABILITIES == 7);
-    CHECK(TACIT_RECORD_LENGTH == 24);
+    CHECK(TACIT_RECORD_LENGTH == 24 && TACIT_KIND1_LENGTH == 22);
     CHECK(TACIT_ROW_MOST == 64 && TACIT_LIMIT_MOST == 64 && TACIT_APPLICATIONS == 13);
     CHECK(TACIT_EVENT_INITIALIZATION == 0 && TACIT_EVENT_CAPABILITY == 1);
     CHECK(TACIT_EVENT_LOCAL_CHANGE == 2 && TACIT_EVENT_MISMATCH == 3);

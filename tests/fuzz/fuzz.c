@@ -8,12 +8,15 @@
  *                   and an octet of wishes and one of capabilities if bit 4 is 1.
  *                   Bit 7 is 1: a record of so many octets as bits 0 to 5 say follows.
  *   calls           each an octet and what it takes. Bits 0 to 3 of the octet are
- *                   the call, bit 4 is on or off, bit 5 says where buffers are
- *                   lent, bit 6 lends empty ones as NULL. Areas have a length of
- *                   2 octets, then octets; room has a length of 1; numbers have
- *                   the octets of their types; what is true or false has one, but
+ *                   the call, with bit 7 above them, bit 4 is on or off, bit 5 says
+ *                   where buffers are lent, bit 6 lends empty ones as NULL. Areas have
+ *                   a length of 2 octets, then octets; room has a length of 1; numbers
+ *                   have the octets of their types; what is true or false has one, but
  *                   the first of a call, which is bit 4; settings are their fields.
- *                   The wishes are those that are kept, with these bits turned.
+ *                   The wishes are those that are kept, with these bits turned. The
+ *                   record is the kind 2 of a move. Its kind 1 has 22 octets, which
+ *                   stay from one move to the next; if bit 4 is 1, a length of 1, then
+ *                   octets.
  *
  * If bit 6 of the first octet is 1, it is a row of sessions and what happens there:
  *
@@ -48,7 +51,7 @@ enum {
     EVENTS = TACIT_EVENT_CLOSED + 1
 };
 
-_Static_assert(ON_RECORD <= 0x10, "four bits tell the calls on a record apart");
+_Static_assert(ON_RECORD <= 0x20, "five bits tell the calls on a record apart");
 
 /* Where the sessions of a group are from. */
 enum origin {
@@ -96,7 +99,7 @@ struct scene {
     uint32_t wishes; /* those that are kept */
     struct tacit_limits limits;
     struct tacit_totals totals;
-    uint8_t record[MOST_RECORD], area[MOST_AREA], room[MOST_ROOM];
+    uint8_t record[MOST_RECORD], kind1[MOST_RECORD], area[MOST_AREA], room[MOST_ROOM];
     uint8_t row[MOST_ROW * SESSION_OCTETS];
     uint8_t one[SESSION_OCTETS]; /* a session that is lent by itself */
 };
@@ -178,6 +181,14 @@ static void take_record(struct scene *scene)
     take_octets(scene, scene->record, scene->record_length);
 }
 
+/* The other record of a move. */
+static struct octets take_kind1(struct scene *scene)
+{
+    if (scene->head & 0x10)
+        return take_octets(scene, scene->kind1, take(scene, 1) & MOST_RECORD);
+    return (struct octets){scene->kind1, TACIT_KIND1_LENGTH};
+}
+
 static size_t take_row_number(struct scene *scene)
 {
     uint64_t octet = take(scene, 1);
@@ -212,6 +223,8 @@ static struct octets buffer(struct source *source, enum buffer which)
         return take_area(scene, false);
     case ROOM:
         return take_room(scene);
+    case KIND1:
+        return take_kind1(scene);
     case ROW:
         return (struct octets){scene->row, scene->count * SESSION_OCTETS};
     case ONE:
@@ -375,6 +388,8 @@ static void compare(struct scene *scene, const struct given *given, uint8_t *sai
         abort();
     }
     uint8_t *const kept[BUFFERS] = {[RECORD] = scene->record,
+                                    [KIND1] = scene->kind1,
+                                    [KIND2] = scene->record,
                                     [ROOM] = scene->room,
                                     [ROW] = scene->row,
                                     [ONE] = scene->one};
@@ -429,11 +444,13 @@ static void begin(struct scene *scene)
 static void lead_session(struct scene *scene)
 {
     begin(scene);
+    memset(scene->kind1, 0, MOST_RECORD);
     for (int calls = 0; calls < MOST_CALLS && scene->input.length > 0; calls++) {
         uint8_t said[SAID];
         scene->head = (uint8_t)take(scene, 1);
         scene->flag_taken = false;
-        struct given given = {.call = (scene->head & 0x0F) % ON_RECORD, .null = scene->head & 0x40};
+        uint8_t call = (uint8_t)((scene->head & 0x0F) | (scene->head >> 3 & 0x10));
+        struct given given = {.call = call % ON_RECORD, .null = scene->head & 0x40};
         take_given(&given, &scene->source);
         given.wishes ^= scene->wishes;
         compare(scene, &given, said);

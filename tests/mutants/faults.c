@@ -120,6 +120,29 @@ SIGNATURE_wish_sac(__wrap_tacit)
     return answer;
 }
 
+SIGNATURE_forward(__wrap_tacit)
+{
+    struct tacit_moved answer = __real_tacit_forward(PASSED_forward);
+#if FAULT == 24 /* writes into the record that it moves */
+    if (answer.refusal == 0)
+        *(uint8_t *)kind1 ^= 1;
+#elif FAULT == 25 /* reads where kind 2 has capabilities, and makes nothing of it */
+    if (answer.refusal == 0)
+        (void)*(const volatile uint8_t *)(kind1 + kind1_len);
+#endif
+    return answer;
+}
+
+SIGNATURE_back(__wrap_tacit)
+{
+    uint8_t refusal = __real_tacit_back(PASSED_back);
+#if FAULT == 26 /* writes where kind 2 has capabilities */
+    if (refusal == 0)
+        kind1[kind1_len] = 0;
+#endif
+    return refusal;
+}
+
 SIGNATURE_recount(__wrap_tacit)
 {
     struct tacit_row_totals answer = __real_tacit_recount(PASSED_recount);

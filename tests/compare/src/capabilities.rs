@@ -16,7 +16,7 @@ const OF_ROW: &str = "capabilities, row";
 const NEEDING: [u16; CAPABILITIES] = [0x004, 0x018, 0x060];
 
 /// The applications 3 and 11, which open all of these.
-const MULTIPOINT: u16 = 0x404;
+pub const MULTIPOINT: u16 = 0x404;
 
 /// What can be noted of each capability.
 struct Of {
@@ -56,7 +56,7 @@ macro_rules! of {
 const EACH: [Of; CAPABILITIES] = [of!("P2MP"), of!("MP2MP"), of!("HSMP")];
 
 /// What can be noted of both, beside this.
-const BOTH: [&str; 12] = [
+const BOTH: [&str; 10] = [
     "announced, TAC not used",
     "kinds gained, in force",
     "kinds gained, not in force",
@@ -67,21 +67,27 @@ const BOTH: [&str; 12] = [
     "cleared by mismatch at opening",
     "cleared by mismatch",
     "cleared by closing",
-    "10, by a spare bit of ours",
-    "10, by a spare bit of theirs",
 ];
-const NOT_OPEN: &str = "10, by theirs unless Open";
 const AT_LIMIT: &str = "cleared at a limit";
-const ONLY_OF_RECORD: [&str; 8] = [
+const ONLY_OF_RECORD: [&str; 5] = [
     "5, in force",
     "5, not in force",
     "6, in force",
     "6, not in force",
-    "10, by 22 octets",
-    "10, by 23 octets",
-    "10, by 25 octets",
     "creation, 6 by capabilities alone",
 ];
+
+/// What can make a session unsound, and what a record beside.
+const SPARE_OF_OURS: &str = "10, by a spare bit of ours";
+const SPARE_OF_THEIRS: &str = "10, by a spare bit of theirs";
+const NOT_OPEN: &str = "10, by theirs unless Open";
+const OF_UNSOUND: [&str; 3] = [SPARE_OF_OURS, SPARE_OF_THEIRS, NOT_OPEN];
+const OF_UNSOUND_RECORD: [&str; 3] = ["10, by 22 octets", "10, by 23 octets", "10, by 25 octets"];
+
+/// All that [`of_record`] can have to note.
+pub fn of_unsound_record() -> impl Iterator<Item = &'static str> {
+    OF_UNSOUND.into_iter().chain(OF_UNSOUND_RECORD)
+}
 
 /// The table that a call is noted in.
 pub fn table(call: &Call) -> &'static str {
@@ -109,9 +115,10 @@ pub fn all() -> impl Iterator<Item = (&'static str, &'static str)> {
             of.repeated_before_3,
         ]
     });
-    let both = each.chain(BOTH).chain([NOT_OPEN]);
+    let both = each.chain(BOTH).chain(OF_UNSOUND);
     let both = both.flat_map(|note| [(OF_RECORD, note), (OF_ROW, note)]);
-    both.chain(ONLY_OF_RECORD.map(|note| (OF_RECORD, note)))
+    let only = ONLY_OF_RECORD.into_iter().chain(OF_UNSOUND_RECORD);
+    both.chain(only.map(|note| (OF_RECORD, note)))
         .chain([(OF_ROW, AT_LIMIT)])
 }
 
@@ -284,13 +291,17 @@ fn of_unsound(call: &Call) -> Vec<&'static str> {
     if call.takes("one") {
         return of_fields(&call.one);
     }
-    let record = &call.record;
-    let padded = [&record[..], &[0, 0]].concat();
+    of_record(&call.record)
+}
+
+/// The same of a record.
+pub fn of_record(record: &[u8]) -> Vec<&'static str> {
+    let padded = [record, &[0, 0]].concat();
     let sound = |length: usize| padded.get(..length).is_some_and(second::sound);
     match record.len() {
         22 if sound(24) => vec!["10, by 22 octets"],
         23 if sound(24) => vec!["10, by 23 octets"],
-        24 if record[13] == 0 && record[..4] == [20, 0, 1, 0] => {
+        24 if record[13] == 0 && record[..4] == records::HEAD => {
             of_fields(&records::fields(record))
         }
         25 if sound(24) => vec!["10, by 25 octets"],
@@ -311,11 +322,11 @@ fn of_fields(session: &Fields) -> Vec<&'static str> {
     let spare = |octet: u8| octet & !ALL_CAPABILITIES != 0;
     such(&[
         (
-            "10, by a spare bit of ours",
+            SPARE_OF_OURS,
             spare(ours) && sound(ours & ALL_CAPABILITIES, theirs),
         ),
         (
-            "10, by a spare bit of theirs",
+            SPARE_OF_THEIRS,
             spare(theirs) && sound(ours, theirs & ALL_CAPABILITIES),
         ),
         (

@@ -11,6 +11,7 @@
 mod areas;
 mod call;
 mod capabilities;
+mod moves;
 mod notes;
 mod numbers;
 mod reachable;

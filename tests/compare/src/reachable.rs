@@ -4,7 +4,7 @@ use crate::call::{Which, ROW_EVENTS};
 use crate::tally::Place::{self, Gone, Held, Open, Outside, Ready, Unsound};
 use crate::tally::What::{self, Note, Outcome, Refusal};
 use crate::tally::{Item, STATES};
-use crate::{capabilities, notes, totals};
+use crate::{capabilities, moves, notes, totals};
 use std::collections::BTreeSet;
 
 /// The names of events that are told by their numbers.
@@ -66,6 +66,7 @@ pub fn reachable() -> BTreeSet<Item> {
     for (table, note) in capabilities::all() {
         add(table, Place::None, Note(note));
     }
+    moved(&mut add);
     items
 }
 
@@ -174,6 +175,26 @@ fn events(add: &mut Add, names: [&'static str; 6]) {
     add(closed, Open, Note("kinds lost"));
     for state in [Ready, Held, Gone] {
         add(closed, state, Refusal(7));
+    }
+}
+
+/// What the moves come to.
+fn moved(add: &mut Add) {
+    for name in ["forward", "back"] {
+        add(name, Unsound, Refusal(10));
+        for state in STATES {
+            // Not by the record: by the room.
+            add(name, state, Refusal(10));
+        }
+    }
+    for state in STATES {
+        add("forward", state, Note("no kinds lost"));
+        add("back", state, Refusal(0));
+        add("back", state, Refusal(13));
+    }
+    add("forward", Open, Note("kinds lost"));
+    for (name, note) in moves::all() {
+        add(name, Place::None, Note(note));
     }
 }
 

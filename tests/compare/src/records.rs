@@ -8,6 +8,12 @@ use crate::widths::{
 use second::{Fields, Settings};
 
 pub const LENGTH: usize = 24;
+pub const KIND1_LENGTH: usize = 22;
+
+/// What a record begins with, and one of kind 1: how many octets follow the first two, and
+/// the kind.
+pub const HEAD: [u8; 4] = [22, 0, 2, 0];
+const KIND1_HEAD: [u8; 4] = [20, 0, 1, 0];
 
 pub const READY: u8 = 0;
 pub const OPEN: u8 = 1;
@@ -24,7 +30,8 @@ pub const HELLO: u8 = 1 << 6;
 
 /// The record with these fields, whether or not they go together.
 pub fn stored(session: &Fields) -> Vec<u8> {
-    let mut octets = vec![20, 0, 1, 0, session.state, session.flags];
+    let mut octets = HEAD.to_vec();
+    octets.extend([session.state, session.flags]);
     octets.extend(session.enabled.to_le_bytes());
     octets.extend(session.listed.to_le_bytes());
     octets.extend(session.protects.to_le_bytes());
@@ -32,6 +39,29 @@ pub fn stored(session: &Fields) -> Vec<u8> {
     octets.extend(session.hello.to_le_bytes());
     octets.extend(session.next.to_le_bytes());
     octets.extend([session.ours, session.theirs]);
+    octets
+}
+
+/// The record with the head of the other kind; what is wrong with its head stays so.
+pub fn other_head(record: &[u8]) -> Vec<u8> {
+    let mut octets = record.to_vec();
+    for (octet, (one, other)) in octets.iter_mut().zip(HEAD.into_iter().zip(KIND1_HEAD)) {
+        *octet ^= one ^ other;
+    }
+    octets
+}
+
+/// A record as one of kind 1, as sound or damaged as it is; its capabilities are left out.
+pub fn to_kind1(record: &[u8]) -> Vec<u8> {
+    let mut octets = other_head(record);
+    octets.truncate(record.len().saturating_sub(LENGTH - KIND1_LENGTH));
+    octets
+}
+
+/// The other way, with no capability at either end.
+pub fn to_kind2(record: &[u8]) -> Vec<u8> {
+    let mut octets = other_head(record);
+    octets.extend([0; LENGTH - KIND1_LENGTH]);
     octets
 }
 
@@ -322,7 +352,7 @@ pub fn damaged_session(numbers: &mut Numbers) -> Fields {
 
 /// A record of any sort.
 pub fn any(numbers: &mut Numbers) -> Vec<u8> {
-    match numbers.weighted(&[38, 18, 10, 12, 8, 3, 6, 4, 4]) {
+    match numbers.weighted(&[38, 18, 10, 12, 8, 3, 6, 4, 4, 4, 4, 2]) {
         0 => sound(numbers),
         1 => {
             let mut octets = sound(numbers);
@@ -335,25 +365,68 @@ pub fn any(numbers: &mut Numbers) -> Vec<u8> {
         5 => numbers.octets(LENGTH),
         6 => {
             let mut octets = sound(numbers);
-            let (length, filler) = (any_length(numbers), numbers.octet());
+            let (length, filler) = (any_length(numbers, LENGTH), numbers.octet());
             octets.resize(length, filler);
             octets
         }
-        8 => stored(&one_spare_bit(numbers)),
-        _ => {
-            let length = any_length(numbers);
+        7 => {
+            let length = any_length(numbers, LENGTH);
             numbers.octets(length)
         }
+        8 => stored(&one_spare_bit(numbers)),
+        9 => to_kind1(&sound(numbers)),
+        // As version 4.0.0 wrote it.
+        10 => other_head(&sound(numbers)),
+        _ => mixed_head(numbers),
     }
 }
 
+/// A record with the length of one kind and the number of the other.
+fn mixed_head(numbers: &mut Numbers) -> Vec<u8> {
+    let record = sound(numbers);
+    let at = numbers.one_of(&[0, 2]);
+    let mut mixed = other_head(&record);
+    mixed[at] = record[at];
+    mixed
+}
+
+/// The record as one to be moved forward: of kind 1, now and then of kind 2, or as version
+/// 4.0.0 wrote it.
+pub fn to_be_moved(numbers: &mut Numbers, record: &[u8]) -> Vec<u8> {
+    match numbers.weighted(&[88, 6, 6]) {
+        0 => to_kind1(record),
+        1 => record.to_vec(),
+        _ => other_head(record),
+    }
+}
+
+/// The record as one to be moved back, often without capabilities.
+pub fn to_be_moved_back(numbers: &mut Numbers, mut record: Vec<u8>) -> Vec<u8> {
+    if numbers.chance(40) {
+        for octet in record.iter_mut().skip(KIND1_LENGTH) {
+            *octet = 0;
+        }
+    }
+    record
+}
+
 /// 0 to 64, often close to the right length.
-pub fn any_length(numbers: &mut Numbers) -> usize {
-    if numbers.chance(30) {
-        numbers.one_of(&[LENGTH - 2, LENGTH - 1, LENGTH + 1, LENGTH + 2])
+fn any_length(numbers: &mut Numbers, right: usize) -> usize {
+    if numbers.flag() {
+        numbers.one_of(&[right - 2, right - 1, right + 1, right + 2])
     } else {
         numbers.below(65)
     }
+}
+
+/// Room for a record of this length, now and then of another.
+pub fn room(numbers: &mut Numbers, right: usize) -> Vec<u8> {
+    let length = if numbers.chance(80) {
+        right
+    } else {
+        any_length(numbers, right)
+    };
+    numbers.octets(length)
 }
 
 /// The applications that matter to a session.

@@ -55,7 +55,7 @@ impl RowWalk {
             1 => set_limit(numbers, &self.row, self.few, self.limits),
             2 => row_count(numbers, self.row.clone(), self.few),
             3 => Call::on_record(Which::Load, records::stored(&session)),
-            4 => store(numbers, session, records::LENGTH),
+            4 => store(session, numbers.octets(records::LENGTH)),
             5 => of_session(Which::SessionKinds, session),
             6 => of_session(Which::SessionRetry, session),
             7 => session_wish(numbers, session, self.wishes[self.place(&session)]),
@@ -307,11 +307,11 @@ fn kind_total(numbers: &mut Numbers, totals: Totals) -> Call {
     }
 }
 
-/// A session stored in a record of this length.
-fn store(numbers: &mut Numbers, session: Fields, length: usize) -> Call {
+/// A session stored in this room.
+fn store(session: Fields, room: Vec<u8>) -> Call {
     Call {
         session,
-        ..Call::on_record(Which::Store, numbers.octets(length))
+        ..Call::on_record(Which::Store, room)
     }
 }
 
@@ -337,13 +337,8 @@ pub fn beside_a_row(numbers: &mut Numbers) -> Call {
     match numbers.weighted(&[30, 30, 5, 20, 8, 7, 40, 15]) {
         0 => Call::on_record(Which::Load, records::any(numbers)),
         1 => {
-            let length = if numbers.chance(80) {
-                records::LENGTH
-            } else {
-                records::any_length(numbers)
-            };
-            let session = any_session(numbers);
-            store(numbers, session, length)
+            let room = records::room(numbers, records::LENGTH);
+            store(any_session(numbers), room)
         }
         2 => Call::new(Which::NoLimits),
         3 => {

@@ -6,7 +6,7 @@ use crate::numbers::Numbers;
 use crate::row_scenes::{self, RowWalk};
 use crate::widths::{ALL_APPS, APPLICATIONS, APPS, LAST, LAST_APP};
 use crate::{areas, records};
-use second::Fields;
+use second::{Fields, Moved};
 
 /// A session on its way, with the wishes that are kept beside it.
 struct Walk {
@@ -58,9 +58,13 @@ impl Scenes {
 
     /// Goes on from what was seen.
     pub fn saw(&mut self, call: &Call, seen: &Seen) {
+        let begun = begun(call, seen);
         if let Some(walk) = &mut self.walk {
             if call.takes("record") {
                 walk.record.clone_from(&seen.left.record);
+            }
+            if let Some((record, _)) = begun {
+                walk.record = record;
             }
             walk.wishes = kept(walk.wishes, seen);
             walk.left -= 1;
@@ -72,23 +76,34 @@ impl Scenes {
             if walk.is_over() {
                 self.row_walk = None;
             }
-        } else if call.which == Which::Create && seen.said == Said::Refusal(0) {
+        } else if let Some((record, wishes)) = begun {
+            let long = match call.which {
+                Which::Create => &[1, 5, 20, 60, 200][..],
+                // There are more of these, and fewer kinds to come and go.
+                _ => &[1, 5, 20],
+            };
             self.walk = Some(Walk {
-                record: seen.left.record.clone(),
-                wishes: call.settings.wishes,
-                left: self.numbers.one_of(&[1, 5, 20, 60, 200]),
+                record,
+                wishes,
+                left: self.numbers.one_of(long),
             });
         }
     }
 }
 
+/// The record of a session that was created or moved forward, and its wishes.
+fn begun(call: &Call, seen: &Seen) -> Option<(Vec<u8>, u32)> {
+    match (call.which, &seen.said) {
+        (Which::Create, Said::Refusal(0)) => Some((seen.left.record.clone(), call.settings.wishes)),
+        (Which::Forward, Said::Moved(Moved { refusal: 0, .. })) => {
+            Some((seen.left.kind2.clone(), 0))
+        }
+        _ => None,
+    }
+}
+
 fn creation(numbers: &mut Numbers) -> Call {
-    let length = if numbers.chance(80) {
-        records::LENGTH
-    } else {
-        records::any_length(numbers)
-    };
-    let record = numbers.octets(length);
+    let record = records::room(numbers, records::LENGTH);
     Call {
         settings: records::settings(numbers),
         ..Call::on_record(Which::Create, record)
@@ -112,6 +127,8 @@ const ON_RECORD: &[(Which, [usize; 5])] = &[
     (Which::Wish, [24, 6, 24, 10, 12]),
     (Which::WishSac, [6, 4, 2, 2, 2]),
     (Which::Wanted, [6, 2, 4, 2, 2]),
+    (Which::Forward, [20, 1, 1, 1, 1]),
+    (Which::Back, [20, 4, 4, 4, 4]),
 ];
 
 /// A call on a record of any sort.
@@ -142,8 +159,17 @@ fn on_record(
     let session = records::fields(&record);
     let hint = records::hint(&session);
     let mut call = Call::new(which);
-    if call.takes("record") {
-        call.record = record;
+    match which {
+        Which::Forward => {
+            call.kind1 = records::to_be_moved(numbers, &record);
+            call.kind2 = records::room(numbers, records::LENGTH);
+        }
+        Which::Back => {
+            call.kind2 = records::to_be_moved_back(numbers, record);
+            call.kind1 = records::room(numbers, records::KIND1_LENGTH);
+        }
+        _ if call.takes("record") => call.record = record,
+        _ => {}
     }
     if call.takes("area") {
         call.area = area(numbers, hint);

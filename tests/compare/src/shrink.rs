@@ -119,20 +119,37 @@ fn fewer_sessions(call: &Call, take: &mut dyn FnMut(Call) -> bool) -> bool {
     })
 }
 
-/// Fields of a record that go together.
+/// Records with fields that go together.
 fn plainer_record(call: &Call, take: &mut dyn FnMut(Call) -> bool) -> bool {
-    if call.record.len() != records::LENGTH {
-        return false;
-    }
-    plainer_fields(&records::fields(&call.record), &mut |session| {
-        let mut record = records::stored(&session);
-        for at in [0, 1, 2, 3, 13] {
-            record[at] = call.record[at];
-        }
+    plainer_stored(&call.record, &mut |record| {
         take(Call {
             record,
             ..call.clone()
         })
+    }) || plainer_stored(&call.kind2, &mut |kind2| {
+        take(Call {
+            kind2,
+            ..call.clone()
+        })
+    }) || plainer_stored(&records::to_kind2(&call.kind1), &mut |record| {
+        take(Call {
+            kind1: records::to_kind1(&record),
+            ..call.clone()
+        })
+    })
+}
+
+/// The record with plainer fields, the rest of it as it is.
+fn plainer_stored(record: &[u8], take: &mut dyn FnMut(Vec<u8>) -> bool) -> bool {
+    if record.len() != records::LENGTH {
+        return false;
+    }
+    plainer_fields(&records::fields(record), &mut |session| {
+        let mut plainer = records::stored(&session);
+        for at in [0, 1, 2, 3, 13] {
+            plainer[at] = record[at];
+        }
+        take(plainer)
     })
 }
 

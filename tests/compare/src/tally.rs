@@ -2,7 +2,7 @@
 
 use crate::call::{Call, Left, Said, Seen, Which};
 use crate::reachable::{reachable, BY_NUMBER, NO_EVENT};
-use crate::{capabilities, notes, records, rows, totals};
+use crate::{capabilities, moves, notes, records, rows, totals};
 use second::{Answer, Fields};
 use std::collections::{BTreeMap, BTreeSet};
 use std::fmt;
@@ -48,6 +48,8 @@ impl Place {
         match call.which {
             // What it is given is room for one.
             Which::Create => Place::None,
+            Which::Forward => Place::of(&records::to_kind2(&call.kind1)),
+            Which::Back => Place::of(&call.kind2),
             _ if call.takes("record") => Place::of(&call.record),
             _ => Place::None,
         }
@@ -161,6 +163,9 @@ impl Tally {
         for note in capabilities::notes(call, before, seen) {
             self.met((held, Place::None, What::Note(note)));
         }
+        for note in moves::notes(call, before, seen) {
+            self.met((name, Place::None, What::Note(note)));
+        }
         let mut met = |what| self.met((name, before, what));
         if let Some(answer) = event(&seen.said) {
             let (was, is) = sessions(call, &seen.left);
@@ -209,6 +214,10 @@ impl Tally {
                 0 => "interval 0",
                 65_535 => "interval 65535",
                 _ => "some other interval",
+            })),
+            Said::Moved(answer) if answer.refusal == 0 => met(What::Note(match answer.lost {
+                0 => "no kinds lost",
+                _ => "kinds lost",
             })),
             Said::Count(answer) if answer.refusal == 0 => met(What::Note(match answer.count {
                 0 => "count 0",

@@ -1,6 +1,6 @@
 //! A session as a row holds it: the fields of its record, each as a number.
 
-use crate::record::{self, KIND, LENGTH, REST};
+use crate::record::{self, HEAD, LENGTH};
 use crate::session::Session;
 use crate::{Kinds, Refusal, Retry};
 
@@ -70,8 +70,7 @@ impl Fields {
 
     fn record(&self) -> [u8; LENGTH] {
         let mut octets = [0; LENGTH];
-        octets[0..2].copy_from_slice(&REST.to_le_bytes());
-        octets[2..4].copy_from_slice(&KIND.to_le_bytes());
+        octets[..4].copy_from_slice(&HEAD);
         octets[4] = self.state;
         octets[5] = self.flags;
         octets[6..8].copy_from_slice(&self.enabled.to_le_bytes());
@@ -102,7 +101,7 @@ pub fn load(record: &[u8]) -> Loaded {
 
 /// Stores a session in `record`; answers the refusal number, 0 for none.
 pub fn store(session: Fields, record: &mut [u8]) -> u8 {
-    let Ok(record) = <&mut [u8; LENGTH]>::try_from(record) else {
+    let Ok(record) = record::room(record) else {
         return Refusal::NotSound.number();
     };
     match session.session() {

@@ -3,7 +3,7 @@
 //! for a row of sessions with limits and totals.
 //!
 //! Every public function works on plain octets and numbers and can be called
-//! with any of them. A session travels as its 24-octet record, or in a row as
+//! with any of them. A session travels as its record of kind 2, or in a row as
 //! its [`Fields`]; inside, it is the decoded [`session::Session`]. What is handed
 //! in and out is laid out as in C, for `tests/second_c`.
 //!
@@ -16,6 +16,7 @@
 //! | `session.rs`      | a session and what can be asked of it                 |
 //! | `events.rs`       | what happens to a session                             |
 //! | `record.rs`       | the stored form and when it is sound                  |
+//! | `moves.rs`        | from the older kind of record to this one, and back   |
 //! | `message.rs`      | the message written for a local change                |
 //! | `fields.rs`       | a session as a row holds it, loaded and stored        |
 //! | `limits.rs`       | how many sessions may use each application            |
@@ -33,6 +34,7 @@ mod kinds;
 mod limits;
 mod lists;
 mod message;
+mod moves;
 mod record;
 mod row;
 mod session;
@@ -41,6 +43,7 @@ mod wishes;
 
 pub use fields::{load, session_kinds, session_retry, store, Fields, Loaded};
 pub use limits::{no_limits, set_limit, Limited, Limits};
+pub use moves::{back, forward, Moved};
 pub use row::{
     recount, row_capability, row_closed, row_count, row_event, row_hello, row_initialization,
     row_local_change, row_mismatch, Count, Event,
@@ -56,6 +59,9 @@ use session::{Session, Settled};
 
 /// Octets in a stored record.
 pub const RECORD_LENGTH: usize = record::LENGTH;
+
+/// Octets in a record of kind 1.
+pub const KIND1_LENGTH: usize = record::KIND1_LENGTH;
 
 /// Octets in the message that a local change writes.
 pub const MESSAGE_LENGTH: usize = message::LENGTH;
@@ -162,6 +168,7 @@ pub(crate) enum Refusal {
     NotSound = 10,
     OutsideRow = 11,
     LimitTooHigh = 12,
+    NoPlaceForCapabilities = 13,
     NoControl = 15,
     TotalOutside = 16,
 }
@@ -200,7 +207,7 @@ pub fn read(area: &[u8]) -> Reading {
 /// Stores a fresh session in `record`; answers the refusal number, 0 for none. The
 /// wishes have no place there.
 pub fn create(record: &mut [u8], settings: Settings) -> u8 {
-    let Ok(record) = <&mut [u8; RECORD_LENGTH]>::try_from(record) else {
+    let Ok(record) = record::room(record) else {
         return Refusal::NotSound.number();
     };
     let (Some(protected), Some(enabled), Some(_), Some(ours)) = (

@@ -1,9 +1,9 @@
-//! The stored form of a session.
+//! The stored form of a session: a record of kind 2.
 //!
 //! | octets | field                                                     |
 //! |--------|-----------------------------------------------------------|
-//! | 0, 1   | length of the rest, 20                                    |
-//! | 2, 3   | kind of record, 1                                         |
+//! | 0, 1   | length of what follows them, 22                           |
+//! | 2, 3   | kind of record, 2                                         |
 //! | 4      | state                                                     |
 //! | 5      | flags                                                     |
 //! | 6, 7   | enabled applications                                      |
@@ -16,7 +16,8 @@
 //! | 22     | our capabilities                                          |
 //! | 23     | the peer's capabilities                                   |
 //!
-//! The last two stand behind the record that the length speaks of.
+//! A record of kind 1 ends before the capabilities, and its length is 20. Its session has
+//! none at either end.
 
 use crate::capabilities::CapabilitySet;
 use crate::kinds::KindSet;
@@ -25,9 +26,11 @@ use crate::session::{Peer, Session, Settled, State};
 use crate::Refusal;
 
 pub(crate) const LENGTH: usize = 24;
+pub(crate) const KIND1_LENGTH: usize = 22;
 
-pub(crate) const REST: u16 = 20;
-pub(crate) const KIND: u16 = 1;
+/// Length and kind, of a record of kind 2 and of one of kind 1.
+pub(crate) const HEAD: [u8; 4] = [22, 0, 2, 0];
+const KIND1_HEAD: [u8; 4] = [20, 0, 1, 0];
 
 const INITIATING: u8 = 1 << 0;
 const ACTIVE: u8 = 1 << 1;
@@ -37,6 +40,20 @@ const IN_FORCE: u8 = 1 << 4;
 const DYNAMIC: u8 = 1 << 5;
 const HELLO: u8 = 1 << 6;
 const SPARE: u8 = 1 << 7;
+
+/// Room for a record, if it has just its size.
+pub(crate) fn room<const N: usize>(octets: &mut [u8]) -> Result<&mut [u8; N], Refusal> {
+    octets.try_into().map_err(|_| Refusal::NotSound)
+}
+
+/// The session of a sound record of kind 1.
+pub(crate) fn decode_kind1(record: &[u8]) -> Result<Session, Refusal> {
+    match record.strip_prefix(&KIND1_HEAD) {
+        // With these two it has 24 octets if it had 22.
+        Some(shared) => decode(&[&HEAD, shared, &[0, 0]].concat()),
+        None => Err(Refusal::NotSound),
+    }
+}
 
 /// The session of a sound record.
 pub(crate) fn decode(record: &[u8]) -> Result<Session, Refusal> {
@@ -52,10 +69,7 @@ fn decoded(record: &[u8]) -> Option<Session> {
     let flags = octets[5];
     let flag = |bit: u8| flags & bit != 0;
 
-    if pair(0) != REST {
-        return None;
-    }
-    if pair(2) != KIND {
+    if octets[..4] != HEAD {
         return None;
     }
     if flag(SPARE) {
@@ -142,6 +156,13 @@ fn is_sound(session: &Session) -> bool {
     }
 }
 
+/// The record of kind 1; capabilities have no place there.
+pub(crate) fn encode_kind1(session: &Session) -> [u8; KIND1_LENGTH] {
+    let [mut octets @ .., _ours, _theirs] = encode(session);
+    octets[..4].copy_from_slice(&KIND1_HEAD);
+    octets
+}
+
 pub(crate) fn encode(session: &Session) -> [u8; LENGTH] {
     let Session {
         settings,
@@ -167,8 +188,7 @@ pub(crate) fn encode(session: &Session) -> [u8; LENGTH] {
     }
     let listed = peer.listed.unwrap_or(ApplicationSet::EMPTY);
     let mut octets = [0; LENGTH];
-    octets[0..2].copy_from_slice(&REST.to_le_bytes());
-    octets[2..4].copy_from_slice(&KIND.to_le_bytes());
+    octets[..4].copy_from_slice(&HEAD);
     octets[4] = match state {
         State::Ready => 0,
         State::Open => 1,

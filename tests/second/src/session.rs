@@ -80,6 +80,16 @@ impl Session {
 
     /// The kinds of label that may be sent now.
     pub fn permitted(&self) -> KindSet {
+        self.permitted_if_held().without(self.held().lacks())
+    }
+
+    /// The kinds that may not be sent only because a capability is not held by both ends.
+    pub fn lacking(&self) -> KindSet {
+        self.permitted_if_held().without(self.permitted())
+    }
+
+    /// The kinds that might be sent now if both ends held every capability.
+    fn permitted_if_held(&self) -> KindSet {
         if self.state != State::Open {
             return KindSet::NONE;
         }
@@ -88,7 +98,6 @@ impl Session {
             None => KindSet::ALL,
         };
         open.without(self.peer.disabled.closes())
-            .without(self.held().lacks())
     }
 
     /// The capabilities held by both ends.

@@ -73,7 +73,8 @@ impl<'a> Input<'a> {
         Some(vec![0xEE; length.min(MOST_ROOM).into()])
     }
 
-    fn area(&mut self) -> Option<&'a [u8]> {
+    /// Octets with their length before them.
+    fn lent(&mut self) -> Option<&'a [u8]> {
         let length = self.pair()?;
         self.octets(length.into())
     }
@@ -134,11 +135,11 @@ fn call(input: &mut Input, record: &mut [u8; RECORD_LENGTH]) -> Option<Line> {
             line.octets(record);
         }
         2 => {
-            line.answer(second::initialization(record, input.area()?));
+            line.answer(second::initialization(record, input.lent()?));
             line.octets(record);
         }
         3 => {
-            line.answer(second::capability(record, input.area()?));
+            line.answer(second::capability(record, input.lent()?));
             line.octets(record);
         }
         4 => {
@@ -176,7 +177,7 @@ fn call(input: &mut Input, record: &mut [u8; RECORD_LENGTH]) -> Option<Line> {
         }
         11 => line.number(second::sound(record)),
         12 => {
-            let reading = second::read(input.area()?);
+            let reading = second::read(input.lent()?);
             line.number(reading.refusal);
             line.number(reading.dynamic);
             line.number(reading.capabilities);
@@ -232,6 +233,17 @@ fn call(input: &mut Input, record: &mut [u8; RECORD_LENGTH]) -> Option<Line> {
             line.number(total.refusal);
             line.number(total.total);
         }
+        22 => {
+            let moved = second::forward(input.lent()?, record);
+            line.number(moved.refusal);
+            line.number(moved.lost);
+            line.octets(record);
+        }
+        23 => {
+            let mut room = input.room()?;
+            line.number(second::back(record, &mut room));
+            line.octets(&room);
+        }
         _ => return None,
     }
     Some(line)
@@ -277,6 +289,8 @@ mod tests {
         assert_eq!(lines(&[19, 0, 0, 0, 0]), "");
         assert_eq!(lines(&[[20].as_slice(), &[0; 7]].concat()), "");
         assert_eq!(lines(&[[21].as_slice(), &[0; 13]].concat()), "");
+        assert_eq!(lines(&[22, 1, 0]), "");
+        assert_eq!(lines(&[23]), "");
         assert_eq!(lines(&[11, 0, 11]), "b 0\n");
     }
 }

@@ -36,17 +36,19 @@
 //! | 19 | SAC of wishes   | wishes (4), length of the room (1)                 |
 //! | 20 | wanted          | wishes (4), kind (4)                               |
 //! | 21 | total of a kind | totals (10), kind (4)                              |
+//! | 22 | forward         | length of a record of kind 1 (2), the record       |
+//! | 23 | back            | length of the room (1)                             |
 //!
 //! Roles from bit 0: initiating, active, uses TAC, drops; the other bits are not
 //! read. Limits are an octet for each application, from TA-Id 1 on; totals are one
 //! for each kind, from kind 0 on. A session is its fields: state (1), flags (1),
 //! disabled (1), enabled (2), listed (2), protected kinds (2), our capabilities (1), the
 //! peer's (1), Hello number (4), next message number (4). A room has as many octets as
-//! asked for, but never more than 40, and each is 0xEE before the call. `load` reads the
-//! record, and `store` leaves it alone. The wishes and the totals of a call are those
-//! that it is given: none are kept from one call to the next. The run ends at the end
-//! of the input, at a call whose arguments are cut short, and at any other number. What
-//! lies beyond 32,768 octets is not read.
+//! asked for, but never more than 40, and each is 0xEE before the call. `load` and `back`
+//! read the record, `store` leaves it alone, and `forward` has it for its room. The wishes
+//! and the totals of a call are those that it is given: none are kept from one call to the
+//! next. The run ends at the end of the input, at a call whose arguments are cut short, and
+//! at any other number. What lies beyond 32,768 octets is not read.
 //!
 //! # The lines
 //!
@@ -74,6 +76,8 @@
 //! |  19 | refusal, written, room                                             |
 //! |  20 | refusal, wanted                                                    |
 //! |  21 | refusal, total                                                     |
+//! |  22 | refusal, lost, record                                              |
+//! |  23 | refusal, room                                                      |
 
 use std::io::{self, Write};
 
@@ -88,6 +92,9 @@ const HOLDS: u8 = INITIATING | ACTIVE | USES_TAC;
 /// Just enough room, for a local change and for a wish.
 const ROOM: u8 = 17;
 const WISH_ROOM: u8 = 14;
+
+/// The room for a record of kind 1.
+const KIND1_ROOM: u8 = 22;
 
 /// TAC with 4 and 7, a dynamic peer.
 const BOTH_DYNAMIC: &str = "850F0009 80 00048000 00078000 85060001 80";
@@ -129,10 +136,11 @@ impl Calls {
         self.octets(&number.to_le_bytes());
     }
 
-    fn area(&mut self, area: &[u8]) {
-        let length = u16::try_from(area.len()).expect("a length of 16 bits");
+    /// With their length before them.
+    fn lent(&mut self, octets: &[u8]) {
+        let length = u16::try_from(octets.len()).expect("a length of 16 bits");
         self.octets(&length.to_le_bytes());
-        self.octets(area);
+        self.octets(octets);
     }
 
     fn create(&mut self, roles: u8, protected: u32, enabled: u32, first: u32) {
@@ -154,12 +162,12 @@ impl Calls {
 
     fn initialization(&mut self, area: &str) {
         self.octets(&[2]);
-        self.area(&hex(area));
+        self.lent(&hex(area));
     }
 
     fn capability(&mut self, area: &str) {
         self.octets(&[3]);
-        self.area(&hex(area));
+        self.lent(&hex(area));
     }
 
     fn local_change(&mut self, ta_id: u32, on: bool, room: u8) {
@@ -200,7 +208,7 @@ impl Calls {
 
     fn read(&mut self, area: &str) {
         self.octets(&[12]);
-        self.area(&hex(area));
+        self.lent(&hex(area));
     }
 
     /// Without its last two octets nothing is held at either end.
@@ -262,6 +270,15 @@ impl Calls {
         self.number(kind);
     }
 
+    fn forward(&mut self, kind1: &str) {
+        self.octets(&[22]);
+        self.lent(&hex(kind1));
+    }
+
+    fn back(&mut self, room: u8) {
+        self.octets(&[23, room]);
+    }
+
     /// A fresh session with these applications enabled.
     fn enabling(&mut self, ta_ids: &[u32]) {
         self.create(HOLDS, 0, applications(ta_ids), 0);
@@ -317,10 +334,14 @@ fn examples(calls: &mut Calls) {
     calls.local_change(4, true, ROOM);
 }
 
-/// The stored record that the scope of work gives, made and set.
+/// The stored record that the scope of work gives, of kind 1.
+const STORED: &str = "1400 0100 00 07 4800 0000 0000 00 00 00000000 01000000";
+
+/// The same session made, moved back and forward.
 fn stored(calls: &mut Calls) {
     calls.create(HOLDS, 0, applications(&[4, 7]), 1);
-    calls.record("1400 0100 00 07 4800 0000 0000 00 00 00000000 01000000");
+    calls.back(KIND1_ROOM);
+    calls.forward(STORED);
     calls.sound();
 }
 
@@ -497,48 +518,36 @@ fn numbers(calls: &mut Calls) {
     calls.local_change(1, false, 0xFF);
 }
 
-/// Records that break one rule each, and sound ones beside them.
-fn records(calls: &mut Calls) {
-    for record in [
-        // length, kind, state, the zero octet, spare bits
-        "1500 0100 00 07 4800 0000 0000 00 00 00000000 01000000",
-        "1400 0101 00 07 4800 0000 0000 00 00 00000000 01000000",
-        "1400 0100 04 07 4800 0000 0000 00 00 00000000 01000000",
-        "1400 0100 00 07 4800 0000 0000 00 01 00000000 01000000",
-        "1400 0100 00 87 4800 0000 0000 00 00 00000000 01000000",
-        "1400 0100 00 07 4820 0000 0000 00 00 00000000 01000000",
-        "1400 0100 01 17 4800 4820 0000 00 00 00000000 01000000",
-        "1400 0100 00 07 4800 0000 0004 00 00 00000000 01000000",
-        "1400 0100 01 07 4800 0000 0000 10 00 00000000 01000000",
-        // in force: in Ready, without TAC, with nothing common
-        "1400 0100 00 17 4800 4800 0000 00 00 00000000 01000000",
-        "1400 0100 01 13 4800 4800 0000 00 00 00000000 01000000",
-        "1400 0100 01 17 4800 0100 0000 00 00 00000000 01000000",
-        // listed and not in force; disabled and dynamic in Ready; a Hello number and none recorded
-        "1400 0100 01 07 4800 4800 0000 00 00 00000000 01000000",
-        "1400 0100 00 07 4800 0000 0000 01 00 00000000 01000000",
-        "1400 0100 00 27 4800 0000 0000 00 00 00000000 01000000",
-        "1400 0100 00 07 4800 0000 0000 00 00 00000001 01000000",
-        // Held: passive, or set to drop; Gone: not so set, passive, responding, with a Hello recorded
-        "1400 0100 02 05 4800 0000 0000 00 00 00000000 01000000",
-        "1400 0100 02 0F 4800 0000 0000 00 00 00000000 01000000",
-        "1400 0100 03 07 4800 0000 0000 00 00 00000000 01000000",
-        "1400 0100 03 0D 4800 0000 0000 00 00 00000000 01000000",
-        "1400 0100 03 0E 4800 0000 0000 00 00 00000000 01000000",
-        "1400 0100 03 4F 4800 0000 0000 00 00 00000000 01000000",
-        // capabilities: spare bits of ours and of the peer's, the peer's unless Open
-        "1400 0100 00 07 4800 0000 0000 00 00 00000000 01000000 08 00",
-        "1400 0100 01 07 4800 0000 0000 00 00 00000000 01000000 80 00",
-        "1400 0100 01 07 4800 0000 0000 00 00 00000000 01000000 00 08",
-        "1400 0100 01 07 4800 0000 0000 00 00 00000000 01000000 07 80",
-        "1400 0100 00 07 4800 0000 0000 00 00 00000000 01000000 00 01",
-        "1400 0100 02 07 4800 0000 0000 00 00 00000000 01000000 02 02",
-        "1400 0100 03 0B 4800 0000 0000 00 00 00000000 01000000 07 04",
-    ] {
-        calls.record(record);
-        calls.sound();
-    }
-    // refused by everything, and made anew
+/// What a record of either kind has behind its head, each with one rule broken.
+const BROKEN: [&str; 20] = [
+    // state, the zero octet, spare bits
+    "04 07 4800 0000 0000 00 00 00000000 01000000",
+    "00 07 4800 0000 0000 00 01 00000000 01000000",
+    "00 87 4800 0000 0000 00 00 00000000 01000000",
+    "00 07 4820 0000 0000 00 00 00000000 01000000",
+    "01 17 4800 4820 0000 00 00 00000000 01000000",
+    "00 07 4800 0000 0004 00 00 00000000 01000000",
+    "01 07 4800 0000 0000 10 00 00000000 01000000",
+    // in force: in Ready, without TAC, with nothing common
+    "00 17 4800 4800 0000 00 00 00000000 01000000",
+    "01 13 4800 4800 0000 00 00 00000000 01000000",
+    "01 17 4800 0100 0000 00 00 00000000 01000000",
+    // listed and not in force; disabled and dynamic in Ready; a Hello number and none recorded
+    "01 07 4800 4800 0000 00 00 00000000 01000000",
+    "00 07 4800 0000 0000 01 00 00000000 01000000",
+    "00 27 4800 0000 0000 00 00 00000000 01000000",
+    "00 07 4800 0000 0000 00 00 00000001 01000000",
+    // Held: passive, or set to drop; Gone: not so set, passive, responding, with a Hello recorded
+    "02 05 4800 0000 0000 00 00 00000000 01000000",
+    "02 0F 4800 0000 0000 00 00 00000000 01000000",
+    "03 07 4800 0000 0000 00 00 00000000 01000000",
+    "03 0D 4800 0000 0000 00 00 00000000 01000000",
+    "03 0E 4800 0000 0000 00 00 00000000 01000000",
+    "03 4F 4800 0000 0000 00 00 00000000 01000000",
+];
+
+/// Every call that a record is handed to; areas and numbers are broken, since 10 comes first.
+fn everything(calls: &mut Calls) {
     calls.initialization("85");
     calls.capability("85");
     calls.local_change(14, true, 0);
@@ -548,20 +557,54 @@ fn records(calls: &mut Calls) {
     calls.permitted(10);
     calls.permitted_kinds();
     calls.retry_interval();
+    calls.sound();
+    calls.load();
+    calls.wish(0, 5, true, 0);
+    calls.back(0);
+}
+
+/// Records that break one rule each, and sound ones beside them.
+fn records(calls: &mut Calls) {
+    for broken in BROKEN {
+        calls.record(&format!("1600 0200 {broken}"));
+        calls.sound();
+    }
+    for record in [
+        // length, kind, both, which version 4.0.0 wrote
+        "1700 0200 00 07 4800 0000 0000 00 00 00000000 01000000",
+        "1400 0200 00 07 4800 0000 0000 00 00 00000000 01000000",
+        "1601 0200 00 07 4800 0000 0000 00 00 00000000 01000000",
+        "1600 0100 00 07 4800 0000 0000 00 00 00000000 01000000",
+        "1600 0202 00 07 4800 0000 0000 00 00 00000000 01000000",
+        "1400 0100 01 07 4800 0000 0000 00 00 00000000 01000000",
+        // capabilities: spare bits of ours and of the peer's, the peer's unless Open
+        "1600 0200 00 07 4800 0000 0000 00 00 00000000 01000000 08 00",
+        "1600 0200 01 07 4800 0000 0000 00 00 00000000 01000000 80 00",
+        "1600 0200 01 07 4800 0000 0000 00 00 00000000 01000000 00 08",
+        "1600 0200 01 07 4800 0000 0000 00 00 00000000 01000000 07 80",
+        "1600 0200 00 07 4800 0000 0000 00 00 00000000 01000000 00 01",
+        "1600 0200 02 07 4800 0000 0000 00 00 00000000 01000000 02 02",
+        "1600 0200 03 0B 4800 0000 0000 00 00 00000000 01000000 07 04",
+    ] {
+        calls.record(record);
+        calls.sound();
+    }
+    // refused by everything, and made anew
+    everything(calls);
     calls.create(HOLDS, 0, 0x2000, 0);
     calls.create(HOLDS | DROPS, 0, 0, 0);
     for record in [
-        "1400 0100 00 47 4800 0000 FF03 00 00 00000000 FFFFFFFF",
-        "1400 0100 01 37 FF1F FF1F FF03 0F 00 00000000 01000000",
-        "1400 0100 02 4E 4800 0000 0000 00 00 FFFFFFFF 01000000",
-        "1400 0100 03 0B 4800 0000 0000 00 00 00000000 01000000",
+        "1600 0200 00 47 4800 0000 FF03 00 00 00000000 FFFFFFFF",
+        "1600 0200 01 37 FF1F FF1F FF03 0F 00 00000000 01000000",
+        "1600 0200 02 4E 4800 0000 0000 00 00 FFFFFFFF 01000000",
+        "1600 0200 03 0B 4800 0000 0000 00 00 00000000 01000000",
         // capabilities of ours in every state, the peer's in Open
-        "1400 0100 00 07 4800 0000 0000 00 00 00000000 01000000 07 00",
-        "1400 0100 01 07 4800 0000 0000 00 00 00000000 01000000 07 07",
-        "1400 0100 01 07 4800 0000 0000 00 00 00000000 01000000 03 06",
-        "1400 0100 01 17 0400 0404 0000 00 00 00000000 01000000 05 05",
-        "1400 0100 02 07 4800 0000 0000 00 00 00000000 01000000 05 00",
-        "1400 0100 03 0B 4800 0000 0000 00 00 00000000 01000000 02 00",
+        "1600 0200 00 07 4800 0000 0000 00 00 00000000 01000000 07 00",
+        "1600 0200 01 07 4800 0000 0000 00 00 00000000 01000000 07 07",
+        "1600 0200 01 07 4800 0000 0000 00 00 00000000 01000000 03 06",
+        "1600 0200 01 17 0400 0404 0000 00 00 00000000 01000000 05 05",
+        "1600 0200 02 07 4800 0000 0000 00 00 00000000 01000000 05 00",
+        "1600 0200 03 0B 4800 0000 0000 00 00 00000000 01000000 02 00",
     ] {
         calls.record(record);
         calls.sound();
@@ -569,7 +612,7 @@ fn records(calls: &mut Calls) {
         calls.retry_interval();
     }
     // Held stays after the first Hello and after Unchanged
-    calls.record("1400 0100 02 07 4800 0000 0000 00 00 00000000 01000000");
+    calls.record("1600 0200 02 07 4800 0000 0000 00 00 00000000 01000000");
     calls.hello(5);
     calls.local_change(4, true, 0);
 }
@@ -596,19 +639,19 @@ fn by_fields(calls: &mut Calls) {
     // each of the four states, stored as loaded
     for (record, session) in [
         (
-            "1400 0100 00 47 4800 0000 FF03 00 00 04030201 FFFFFFFF",
+            "1600 0200 00 47 4800 0000 FF03 00 00 04030201 FFFFFFFF",
             "00 47 00 4800 0000 FF03 00 00 04030201 FFFFFFFF",
         ),
         (
-            "1400 0100 01 37 FF1F FF1F FF03 0F 00 00000000 08070605 03 06",
+            "1600 0200 01 37 FF1F FF1F FF03 0F 00 00000000 08070605 03 06",
             "01 37 0F FF1F FF1F FF03 03 06 00000000 08070605",
         ),
         (
-            "1400 0100 02 4E 4800 0000 0000 00 00 FFFFFFFF 01000000 07 00",
+            "1600 0200 02 4E 4800 0000 0000 00 00 FFFFFFFF 01000000 07 00",
             "02 4E 00 4800 0000 0000 07 00 FFFFFFFF 01000000",
         ),
         (
-            "1400 0100 03 0B 4800 0000 0000 00 00 00000000 01000000",
+            "1600 0200 03 0B 4800 0000 0000 00 00 00000000 01000000",
             "03 0B 00 4800 0000 0000 00 00 00000000 01000000",
         ),
     ] {
@@ -636,9 +679,9 @@ fn by_fields(calls: &mut Calls) {
     calls.store("FF 00 00 0000 0000 0000 00 00 00000000 00000000", 23);
     // records that are not: by a field, by the kind, by the zero octet
     for record in [
-        "1400 0100 00 87 4800 0000 0000 00 00 00000000 01000000",
-        "1400 0101 00 07 4800 0000 0000 00 00 00000000 01000000",
-        "1400 0100 00 07 4800 0000 0000 00 01 00000000 01000000",
+        "1600 0200 00 87 4800 0000 0000 00 00 00000000 01000000",
+        "1600 0201 00 07 4800 0000 0000 00 00 00000000 01000000",
+        "1600 0200 00 07 4800 0000 0000 00 01 00000000 01000000",
     ] {
         calls.record(record);
         calls.load();
@@ -696,7 +739,7 @@ fn wishes_read(calls: &mut Calls) {
 /// What a wish is refused for, and in which order.
 fn wishes_refused(calls: &mut Calls) {
     // 10 by the record, before 15 and Unchanged
-    calls.record("1400 0100 01 87 4800 0000 0000 00 00 00000000 01000000");
+    calls.record("1600 0200 01 87 4800 0000 0000 00 00 00000000 01000000");
     calls.wish(0, 1, true, WISH_ROOM);
     calls.wish(0, 1, false, WISH_ROOM);
     calls.wish(0, 5, true, 0);
@@ -716,8 +759,8 @@ fn wishes_refused(calls: &mut Calls) {
     calls.wish(11, 3, true, 0);
     // 7 in Held and Gone
     for record in [
-        "1400 0100 02 4E 4800 0000 0000 00 00 FFFFFFFF 01000000",
-        "1400 0100 03 0B 4800 0000 0000 00 00 00000000 01000000",
+        "1600 0200 02 4E 4800 0000 0000 00 00 FFFFFFFF 01000000",
+        "1600 0200 03 0B 4800 0000 0000 00 00 00000000 01000000",
     ] {
         calls.record(record);
         calls.wish(2, 2, true, 0);
@@ -862,6 +905,131 @@ fn totals(calls: &mut Calls) {
     }
 }
 
+/// Records of kind 1 moved forward, what becomes of the sessions there, and the way back.
+fn moves(calls: &mut Calls) {
+    // the stored record, asked, led on and back again
+    calls.record(&"A5".repeat(24));
+    calls.forward(STORED);
+    calls.permitted_kinds();
+    calls.retry_interval();
+    calls.load();
+    calls.hello(7);
+    calls.initialization(BOTH_DYNAMIC);
+    calls.permitted_kinds();
+    calls.back(KIND1_ROOM);
+    calls.local_change(3, true, ROOM);
+    // the peer's capabilities come to be known, and go again
+    calls.capability(ALL_HELD);
+    calls.back(KIND1_ROOM);
+    calls.capability("85080001 00 85090001 00 89020001 00");
+    calls.back(KIND1_ROOM);
+    calls.capability("89020001 80");
+    calls.back(KIND1_ROOM);
+    calls.closed();
+    calls.back(KIND1_ROOM);
+    calls.mismatch();
+    calls.back(KIND1_ROOM);
+    // Open, and what is lost: not in force, with TAC or without; everything disabled
+    for record in [
+        "07 4800 0000 0000 00 00 00000000 01000000",
+        "63 4800 0000 FF03 00 00 04030201 08070605",
+        "24 0000 0000 0000 0F 00 00000000 FFFFFFFF",
+        // by 3 and by 11; by what is protected: all, some, none of them
+        "17 0400 0400 0000 0F 00 00000000 01000000",
+        "17 0804 0804 0000 00 00 00000000 01000000",
+        "17 8000 8000 FF03 00 00 00000000 01000000",
+        "17 8000 8000 A902 00 00 00000000 01000000",
+        "17 8000 8000 1401 0C 00 00000000 01000000",
+        "17 8000 8000 8303 00 00 00000000 01000000",
+        // 3 and 8 on one list alone; one that opens nothing; all others; all
+        "17 0C00 8808 FF03 00 00 00000000 01000000",
+        "17 8801 0C05 FF03 00 00 00000000 01000000",
+        "17 0001 0001 FF03 00 00 00000000 01000000",
+        "17 FF1F 7B1B FF03 00 00 00000000 01000000",
+        "7F FF1F FF1F FF03 05 00 FFFFFFFF 00000000",
+    ] {
+        calls.forward(&format!("1400 0100 01 {record}"));
+        calls.permitted_kinds();
+        calls.back(KIND1_ROOM);
+    }
+    // the other states lose nothing; Held and Gone go on as they would
+    for record in [
+        "00 46 4800 0000 FF03 00 00 04030201 01000000",
+        "02 47 0400 0000 FF03 00 00 07000000 01000000",
+        "03 0F 0400 0000 FF03 00 00 00000000 01000000",
+    ] {
+        calls.forward(&format!("1400 0100 {record}"));
+        calls.retry_interval();
+        calls.back(KIND1_ROOM);
+        calls.hello(0x0102_0305);
+        calls.initialization(&format!("850F0005 80 00038000 {ALL_HELD}"));
+    }
+    moves_refused(calls);
+}
+
+/// What the moves are refused for. The record, in which one forward would be, stays as it is.
+fn moves_refused(calls: &mut Calls) {
+    calls.record(&"A5".repeat(24));
+    for broken in BROKEN {
+        calls.forward(&format!("1400 0100 {broken}"));
+    }
+    // length, kind, their high octets
+    for head in [
+        "1400 0200",
+        "1600 0100",
+        "1600 0200",
+        "1401 0100",
+        "1400 0101",
+    ] {
+        calls.forward(&format!("{head} {}", &STORED[10..]));
+    }
+    // 0, 21, 23 and 24 octets; what version 4.0.0 wrote; a record of kind 2
+    calls.forward("");
+    calls.forward(&STORED[..STORED.len() - 2]);
+    for behind in ["00", "0000", "0707"] {
+        calls.forward(&format!("{STORED} {behind}"));
+    }
+    calls.forward(&format!("1600 0200 {} 0000", &STORED[10..]));
+    // and of all 24 octets nothing is left where it is not refused
+    calls.forward(STORED);
+    // the way back: 13 by ours, by the peer's, by both, in every state; 10 by the room before
+    for record in [
+        "00 07 4800 0000 0000 00 00 00000000 01000000 01 00",
+        "01 07 4800 0000 0000 00 00 00000000 01000000 02 00",
+        "01 07 4800 0000 0000 00 00 00000000 01000000 00 04",
+        "01 07 4800 0000 0000 00 00 00000000 01000000 05 02",
+        "02 07 4800 0000 0000 00 00 00000000 01000000 04 00",
+        "03 0B 4800 0000 0000 00 00 00000000 01000000 07 00",
+    ] {
+        calls.record(&format!("1600 0200 {record}"));
+        calls.back(KIND1_ROOM);
+        calls.back(KIND1_ROOM - 1);
+    }
+    // 10 before 13: spare bits, the peer's unless Open, a spare flag
+    for record in [
+        "00 07 4800 0000 0000 00 00 00000000 01000000 08 00",
+        "01 07 4800 0000 0000 00 00 00000000 01000000 07 80",
+        "00 07 4800 0000 0000 00 00 00000000 01000000 00 01",
+        "02 07 4800 0000 0000 00 00 00000000 01000000 02 02",
+        "00 87 4800 0000 0000 00 00 00000000 01000000 01 00",
+    ] {
+        calls.record(&format!("1600 0200 {record}"));
+        calls.back(KIND1_ROOM);
+    }
+    // 10 by rooms of another size
+    calls.forward(STORED);
+    for room in [0, 21, 23, 24, 0xFF] {
+        calls.back(room);
+    }
+    // what version 4.0.0 wrote is refused by all, moved without its capabilities, or kept
+    calls.record("1400 0100 01 07 4800 0000 0000 00 00 00000000 01000000 07 03");
+    everything(calls);
+    calls.forward("1400 0100 01 07 4800 0000 0000 00 00 00000000 01000000");
+    calls.record("1600 0200 01 07 4800 0000 0000 00 00 00000000 01000000 07 03");
+    calls.sound();
+    calls.permitted_kinds();
+}
+
 fn all() -> Vec<u8> {
     let mut calls = Calls(Vec::new());
     examples(&mut calls);
@@ -885,6 +1053,7 @@ fn all() -> Vec<u8> {
     bindings_wanted(&mut calls);
     totals(&mut calls);
     capabilities(&mut calls);
+    moves(&mut calls);
     assert!(calls.0.len() <= MOST, "{} octets", calls.0.len());
     calls.0
 }

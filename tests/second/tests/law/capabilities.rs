@@ -354,7 +354,7 @@ fn sound_by_their_bits_and_the_state() {
 }
 
 /// What document 01 permits.
-fn by_01(session: &Box24) -> u16 {
+pub fn by_01(session: &Box24) -> u16 {
     let protected = u16::from_le_bytes([session.0[10], session.0[11]]);
     let open = match (session.state(), session.in_force()) {
         (OPEN, true) => opened_by(session.enabled() & session.listed(), protected),
@@ -362,6 +362,18 @@ fn by_01(session: &Box24) -> u16 {
         _ => 0,
     };
     open & !disabled_by(session.disabled())
+}
+
+/// An event, by a number below 20: mostly a message.
+pub fn happens(session: &mut Box24, number: u32, area: &[u8]) {
+    match number {
+        0 => closed(&mut session.0),
+        1 => mismatch(&mut session.0),
+        2 | 3 => hello(&mut session.0, number),
+        4 | 5 => session.change(1 + number % 13, number == 4).0,
+        _ if session.state() == OPEN => capability(&mut session.0, area),
+        _ => initialization(&mut session.0, area),
+    };
 }
 
 /// Sessions that are alike but for what is held go through the same events: each permits
@@ -385,14 +397,7 @@ fn over_any_events_holding_more_never_permits_less() {
         for _ in 0..30 {
             let (area, number) = (numbers.area(), numbers.below(20) as u32);
             for session in &mut sessions {
-                match number {
-                    0 => closed(&mut session.0),
-                    1 => mismatch(&mut session.0),
-                    2 | 3 => hello(&mut session.0, number),
-                    4 | 5 => session.change(1 + number % 13, number == 4).0,
-                    _ if session.state() == OPEN => capability(&mut session.0, &area),
-                    _ => initialization(&mut session.0, &area),
-                };
+                happens(session, number, &area);
             }
             let permitted: Vec<u16> = sessions.iter().map(Box24::permitted).collect();
             let first = sessions[0];

@@ -3,6 +3,7 @@
 mod capabilities;
 mod counts;
 mod limits;
+mod moves;
 mod numbers;
 mod proved;
 mod refusals;

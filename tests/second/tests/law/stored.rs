@@ -11,7 +11,7 @@ fn a_fresh_session_is_stored_so() {
     .make();
     assert_eq!(
         session.0.to_vec(),
-        hex("1400 0100 00 07 4800 0000 0000 00 00 00000000 01000000 00 00")
+        hex("1600 0200 00 07 4800 0000 0000 00 00 00000000 01000000 00 00")
     );
 }
 
@@ -33,7 +33,7 @@ fn every_field_has_its_place() {
     hello(&mut session.0, 0x0D0C_0B0A);
     assert_eq!(
         session.0.to_vec(),
-        hex("1400 0100 01 7C 0110 4010 0203 09 00 0A0B0C0D 01020304 03 06")
+        hex("1600 0200 01 7C 0110 4010 0203 09 00 0A0B0C0D 01020304 03 06")
     );
     assert!(sound(&session.0));
 }
@@ -65,11 +65,13 @@ fn unsound(text: &str, changes: &[(usize, u8)]) {
 #[test]
 fn header_and_spare_bits() {
     let mut changes = vec![
-        (0, 0x16),
+        (0, 0x14),
+        (0, 0x18),
         (1, 1),
         (2, 0),
-        (2, 2),
-        (3, 1),
+        (2, 1),
+        (2, 3),
+        (3, 2),
         (4, 4),
         (4, 0xFF),
         (13, 1),
@@ -91,7 +93,7 @@ fn header_and_spare_bits() {
         changes.push((23, 1 << bit));
     }
     unsound(
-        "1400 0100 01 37 4800 4000 0000 00 00 00000000 01000000",
+        "1600 0200 01 37 4800 4000 0000 00 00 00000000 01000000",
         &changes,
     );
 }
@@ -99,7 +101,7 @@ fn header_and_spare_bits() {
 #[test]
 fn force_needs_open_tac_and_a_common_application() {
     unsound(
-        "1400 0100 01 17 4800 4000 0000 00 00 00000000 01000000",
+        "1600 0200 01 17 4800 4000 0000 00 00 00000000 01000000",
         &[
             (4, 0),    // Ready
             (4, 2),    // Held
@@ -109,11 +111,11 @@ fn force_needs_open_tac_and_a_common_application() {
     );
     // Listing 4 in place of 7 leaves something in common.
     assert!(sound(
-        &holding_none("1400 0100 01 17 4800 0800 0000 00 00 00000000 01000000").0
+        &holding_none("1600 0200 01 17 4800 0800 0000 00 00 00000000 01000000").0
     ));
     // Listing neither does not.
     assert!(!sound(
-        &holding_none("1400 0100 01 17 4800 0000 0000 00 00 00000000 01000000").0
+        &holding_none("1600 0200 01 17 4800 0000 0000 00 00 00000000 01000000").0
     ));
 }
 
@@ -121,12 +123,12 @@ fn force_needs_open_tac_and_a_common_application() {
 fn what_the_peer_said_needs_its_holder() {
     // Listed, but not in force.
     unsound(
-        "1400 0100 01 07 4800 0000 0000 00 00 00000000 01000000",
+        "1600 0200 01 07 4800 0000 0000 00 00 00000000 01000000",
         &[(8, 0x40), (8, 0x01), (9, 0x10)],
     );
     // Ready with disabled kinds, a dynamic peer, a Hello number, capabilities of the peer.
     unsound(
-        "1400 0100 00 07 4800 0000 0000 00 00 00000000 01000000",
+        "1600 0200 00 07 4800 0000 0000 00 00 00000000 01000000",
         &[
             (12, 0x01),
             (12, 0x08),
@@ -139,16 +141,16 @@ fn what_the_peer_said_needs_its_holder() {
     );
     // Open may have them.
     assert!(sound(&hex(
-        "1400 0100 01 27 4800 0000 0000 0F 00 00000000 01000000 00 07"
+        "1600 0200 01 27 4800 0000 0000 0F 00 00000000 01000000 00 07"
     )));
     // Held may have none.
     unsound(
-        "1400 0100 02 07 4800 0000 0000 00 00 00000000 01000000",
+        "1600 0200 02 07 4800 0000 0000 00 00 00000000 01000000",
         &[(12, 0x01), (5, 0x27), (14, 1), (23, 1), (23, 2)],
     );
     // Nor may Gone.
     unsound(
-        "1400 0100 03 0F 4800 0000 0000 00 00 00000000 01000000",
+        "1600 0200 03 0F 4800 0000 0000 00 00 00000000 01000000",
         &[(12, 0x01), (5, 0x2F), (14, 1), (23, 1), (23, 4)],
     );
 }
@@ -182,8 +184,17 @@ fn held_and_gone_by_role() {
 
 #[test]
 fn an_unsound_record_is_refused_everywhere_and_left_alone() {
-    let damaged = hex("1400 0100 00 87 4800 0000 0000 00 00 00000000 01000000 00 00");
-    for record in [damaged, vec![], vec![0; 22], vec![0; 24], vec![0xFF; 64]] {
+    for record in [
+        hex("1600 0200 00 87 4800 0000 0000 00 00 00000000 01000000 00 00"),
+        // A record of kind 1, and the same with capabilities behind it.
+        hex("1400 0100 00 07 4800 0000 0000 00 00 00000000 01000000"),
+        hex("1400 0100 00 07 4800 0000 0000 00 00 00000000 01000000 00 00"),
+        hex("1400 0100 01 07 4800 0000 0000 00 00 00000000 01000000 07 07"),
+        vec![],
+        vec![0; 22],
+        vec![0; 24],
+        vec![0xFF; 64],
+    ] {
         let mut room = [0x33; 20];
         let mut used = record.clone();
         assert_eq!(initialization(&mut used, &[0; 5000]), refused(10));
@@ -192,6 +203,15 @@ fn an_unsound_record_is_refused_everywhere_and_left_alone() {
         assert_eq!(mismatch(&mut used), refused(10));
         assert_eq!(hello(&mut used, 5), refused(10));
         assert_eq!(closed(&mut used), refused(10));
+        assert_eq!(wish(&mut used, 0, 99, true, &mut room).answer, refused(10));
+        assert_eq!(load(&used).refusal, 10);
+        assert_eq!(
+            why_not(&used, 99),
+            Reason {
+                refusal: 10,
+                reason: 0
+            }
+        );
         assert_eq!(
             permitted(&used, 99),
             Permission {
