@@ -32,7 +32,7 @@ pub record CallsMove : Type 0 where
       → (q .refusal ≡ notRefused) × (t .1 .0 .now ≡ a .0 .now)
 
 -- what every other call makes of a record of kind 1: an event is refused and leaves it, a question is refused, and no session is loaded
-pub record Refused1 (l : List ℕ) : Type 0 where
+pub record RefusedAsKind1 (l : List ℕ) : Type 0 where
   pub event : (e : Event) (r : Answer) (l′ : List ℕ) → Called e l r l′ → (r .refusal ≡ notSound) × (l′ ≡ l)
   pub kinds : permittedKinds (decoded l) .refusal ≡ notSound
   pub kind : (k : ℕ) → permission (decoded l) k .refusal ≡ notSound
@@ -42,4 +42,4 @@ pub record Refused1 (l : List ℕ) : Type 0 where
   pub loaded : load l ≡ record { refusal = notSound; session = noSession }
 
 abbrev pub Kind1Refused : Type 0
-Kind1Refused = (l : List ℕ) → sound (decodedKind1 l) ≡ true → Refused1 l
+Kind1Refused = (l : List ℕ) → sound (decodedKind1 l) ≡ true → RefusedAsKind1 l
