@@ -1,4 +1,5 @@
--- Two tests that hold together hold each, and the other way round; one that holds is enough for either. By cases on the first. Assumes nothing.
+-- Two tests that hold together hold each, and the other way round; one that holds is enough for either; one that cannot fail holds. By cases on the first.
+-- Assumes nothing.
 use mathlib.Core.Path.{_≡_, refl, sym}
 use mathlib.Core.Logic.{_⊎_, inl, inr}
 use mathlib.Core.Bool.{Bool, true, false, not, _&&_, _||_, false≢true, true≢false}
@@ -36,6 +37,15 @@ or-either false y h = inr h
 pub or-neither : (x y : Bool) → (x || y) ≡ false → (x ≡ false) × (y ≡ false)
 or-neither true y h = absurd (true≢false h)
 or-neither false y h = (refl, h)
+
+-- a test that cannot fail holds, and one that cannot hold fails
+pub holds-if : (x : Bool) → (x ≡ false → ⊥) → x ≡ true
+holds-if true f = refl
+holds-if false f = absurd (f refl)
+
+pub fails-if : (x : Bool) → (x ≡ true → ⊥) → x ≡ false
+fails-if true f = absurd (f refl)
+fails-if false f = refl
 
 -- where `not` holds, the test does not
 pub not-false : (x : Bool) → not x ≡ true → x ≡ false

@@ -7,7 +7,7 @@ use Prim.Native.Nat.{ℕ, zero, suc, _-_, _^_, _<_, _≤_}
 use native.Mathlib.Omega.{arith}
 use lib.ListN.{getD}
 use Rattle.choice.specs.Pick.{pick}
-use Rattle.choice.proofs.Tests.{not-false}
+use Rattle.choice.proofs.Tests.{holds-if, fails-if, not-false}
 use Rattle.sets.specs.Set.{has, common, union, minus, with, numbered, Within}
 use Rattle.sets.proofs.Members.{has-common, has-minus, has-all}
 use Rattle.sets.proofs.Subsets.{within-less, same-members}
@@ -50,20 +50,15 @@ module _ (held k : ℕ) where
 
   -- a kind that is not barred has each capability that it needs
   pub unbarred-has : has (barred held) k ≡ false → (n : ℕ) → 1 ≤ n → n ≤ capabilityCount → has (needed n) k ≡ true → has held (n - 1) ≡ true
-  unbarred-has free n least most needs = go (has held (n - 1)) refl
-    where
-      go : (x : Bool) → has held (n - 1) ≡ x → has held (n - 1) ≡ true
-      go true e = e
-      go false e =
-          absurd (true≢false (sym (lacking-barred (record { capability = n; least = least; most = most; needs = needs; not-held = e })) ∙ free))
+  unbarred-has free n least most needs =
+      holds-if (has held (n - 1)) (λ e.
+      true≢false (sym (lacking-barred (record { capability = n; least = least; most = most; needs = needs; not-held = e })) ∙ free))
 
   -- and one that has them is not barred
   pub has-unbarred : ((n : ℕ) → 1 ≤ n → n ≤ capabilityCount → has (needed n) k ≡ true → has held (n - 1) ≡ true) → has (barred held) k ≡ false
-  has-unbarred all = go (has (barred held) k) refl
-    where
-      go : (x : Bool) → has (barred held) k ≡ x → has (barred held) k ≡ false
-      go false e = e
-      go true e = let l = barred-lacking e in absurd (true≢false (sym (all (l .capability) (l .least) (l .most) (l .needs)) ∙ l .not-held))
+  has-unbarred all =
+      fails-if (has (barred held) k) (λ e.
+      let l = barred-lacking e in true≢false (sym (all (l .capability) (l .least) (l .most) (l .needs)) ∙ l .not-held))
 
 -- a larger set bars no more
 pub barred-within : (a b : ℕ) → Within a b → Within (barred b) (barred a)

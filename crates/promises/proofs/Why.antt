@@ -6,7 +6,7 @@ use mathlib.Core.Bool.{Bool, true, false, not, true≢false}
 use native.Mathlib.Omega.{arith}
 use borrow.Author.Tests.{lt-ltb, le-ltb}
 use Rattle.choice.proofs.Branch.{taken, left, by-test}
-use Rattle.choice.proofs.Tests.{and-first, and-second, and-both, not-false}
+use Rattle.choice.proofs.Tests.{holds-if, and-first, and-second, and-both, not-false}
 use Rattle.sets.specs.Set.{has}
 use Rattle.sets.proofs.Members.{has-common}
 use Rattle.kinds.specs.Kinds.{applicationCount, kindCount, isIn, opens, opened, disables, barred, Some, Lacking}
@@ -94,11 +94,7 @@ module _ (s : Session) (k : ℕ) where
 
     -- in force and not kept back by the test, the set opens the kind
     opened-by : (a : ℕ) → unopened s a k ≡ false → inForce s ≡ true → opens-it a ≡ true
-    opened-by a u f = go (opens-it a) refl
-      where
-        go : (x : Bool) → opens-it a ≡ x → opens-it a ≡ true
-        go true e = e
-        go false e = absurd (true≢false (sym (is-unopened a f e) ∙ u))
+    opened-by a u f = holds-if (opens-it a) (λ e. true≢false (sym (is-unopened a f e) ∙ u))
 
     not-none : unopened s (s .enabled) k ≡ false → NotEnabled s k → ⊥
     not-none u w =

@@ -1,14 +1,14 @@
 -- Storing a session, and the way back, test by test: what is answered where each test leads, and what is then in the room. Assumes nothing.
 use Prim.Native.Nat.{ℕ}
 use mathlib.Core.Path.{_≡_, refl, sym, _∙_}
-use mathlib.Core.Bool.{Bool, true, false, _&&_, true≢false}
+use mathlib.Core.Bool.{true, false, _&&_, true≢false}
 use mathlib.Core.List.{List}
 use native.Mathlib.Omega.{arith}
 use borrow.Author.Tests.{eqb-true, eq-eqb, ne-eqb}
 use lib.Dec.{eqb}
 use lib.ListN.{length}
 use Rattle.choice.proofs.Branch.{taken, left, by-test}
-use Rattle.choice.proofs.Tests.{and-both}
+use Rattle.choice.proofs.Tests.{holds-if, and-both}
 use Rattle.refusals.specs.Refusals.{notRefused, notSound, capabilitiesHeld}
 use Rattle.session.specs.declared.Session.{Session}
 use Rattle.session.specs.Session.{sound}
@@ -25,19 +25,12 @@ store-done s room h n = taken _ _ h ∙ taken _ _ (eq-eqb _ _ n)
 module _ (s : Session) (room : List ℕ) (done : storeRefusal s room ≡ notRefused) where
   pub done-sound : sound s ≡ true
   unfolding storeRefusal
-  done-sound = go (sound s) refl
-    where
-      go : (x : Bool) → sound s ≡ x → sound s ≡ true
-      go true e = e
-      go false e = absurd (omega (arith, sym (left _ _ e) ∙ done))
+  done-sound = holds-if (sound s) (λ e. omega (arith, sym (left _ _ e) ∙ done))
 
   pub done-long : length room ≡ recordLength
   unfolding storeRefusal
-  done-long = go (eqb (length room) recordLength) refl
-    where
-      go : (x : Bool) → eqb (length room) recordLength ≡ x → length room ≡ recordLength
-      go true e = eqb-true _ _ e
-      go false e = absurd (omega (arith, sym (taken _ _ done-sound ∙ left _ _ e) ∙ done))
+  done-long =
+      eqb-true (length room) recordLength (holds-if (eqb (length room) recordLength) (λ e. omega (arith, sym (taken _ _ done-sound ∙ left _ _ e) ∙ done)))
 
 pub store-stays : (s : Session) (room : List ℕ) → (storeRefusal s room ≡ notRefused → ⊥) → storeOctets s room ≡ room
 unfolding storeOctets storedIn

@@ -10,7 +10,7 @@ use lib.Dec.{lit<}
 use lib.ListN.{length}
 use Rattle.choice.specs.Pick.{pick}
 use Rattle.choice.proofs.Branch.{taken, left}
-use Rattle.choice.proofs.Tests.{and-first, and-second, and-both, not-false}
+use Rattle.choice.proofs.Tests.{fails-if, and-first, and-second, and-both, not-false}
 use Rattle.sets.specs.Set.{has, common, minus}
 use Rattle.sets.proofs.Members.{has-minus, has-none, has-lt}
 use Rattle.sets.proofs.Subsets.{within-none, same-members, nothing-left}
@@ -128,11 +128,7 @@ lost-means l room done =
 -- ---- every other question
 -- of a kind that needs no capability none is asked, whoever holds them
 not-mldp : (k : ℕ) → ((2 ≤ k) × (k ≤ 6) → ⊥) → has 124 k ≡ false
-not-mldp k out = go (has 124 k) refl
-  where
-    go : (x : Bool) → has 124 k ≡ x → has 124 k ≡ false
-    go true e = absurd (out (mldp k e))
-    go false e = e
+not-mldp k out = fails-if (has 124 k) (λ e. out (mldp k e))
 
 unbarred : (s : Session) (k : ℕ) → has (barred (s .ours)) k ≡ false → has (barred (s .theirs)) k ≡ false → whyBarred s k ≡ whyPermitted
 unfolding whyBarred

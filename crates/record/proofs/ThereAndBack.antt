@@ -2,14 +2,14 @@
 -- refused goes by its tests. And a record is of one kind alone, by its length and its kind field. Assumes nothing.
 use Prim.Native.Nat.{ℕ, _<_}
 use mathlib.Core.Path.{_≡_, refl, sym, ap, ap₂, _∙_}
-use mathlib.Core.Bool.{Bool, true, false, _&&_}
+use mathlib.Core.Bool.{true, false, _&&_}
 use mathlib.Core.List.{List}
 use native.Mathlib.Omega.{arith}
 use borrow.Author.Tests.{eqb-true, eq-eqb, ne-eqb}
 use lib.Dec.{eqb}
 use lib.ListN.{length, getD}
 use Rattle.choice.proofs.Branch.{taken, left, by-test}
-use Rattle.choice.proofs.Tests.{and-first, and-second}
+use Rattle.choice.proofs.Tests.{holds-if, fails-if, and-first, and-second}
 use Rattle.sets.specs.Set.{empty}
 use Rattle.sets.proofs.Subsets.{empty-is}
 use Rattle.octets.specs.Octets.{leAt16}
@@ -59,25 +59,13 @@ there-and-back l room room′ o h n n′ =
 -- ---- back and there
 module _ (l room : List ℕ) (e : backRefusal l room ≡ notRefused) where
   back-sound : sound (decoded l) ≡ true
-  back-sound = go (sound (decoded l)) refl
-    where
-      go : (x : Bool) → sound (decoded l) ≡ x → sound (decoded l) ≡ true
-      go true h = h
-      go false h = absurd (omega (arith, sym (back-unsound l room h) ∙ e))
+  back-sound = holds-if (sound (decoded l)) (λ h. omega (arith, sym (back-unsound l room h) ∙ e))
 
   back-sized : eqb (length room) kind1Length ≡ true
-  back-sized = go (eqb (length room) kind1Length) refl
-    where
-      go : (x : Bool) → eqb (length room) kind1Length ≡ x → eqb (length room) kind1Length ≡ true
-      go true n = n
-      go false n = absurd (omega (arith, sym (back-size l room n) ∙ e))
+  back-sized = holds-if (eqb (length room) kind1Length) (λ n. omega (arith, sym (back-size l room n) ∙ e))
 
   back-none : holdsNone (decoded l) ≡ true
-  back-none = go (holdsNone (decoded l)) refl
-    where
-      go : (x : Bool) → holdsNone (decoded l) ≡ x → holdsNone (decoded l) ≡ true
-      go true none = none
-      go false held = absurd (omega (arith, sym (back-held l room back-sound back-sized held) ∙ e))
+  back-none = holds-if (holdsNone (decoded l)) (λ held. omega (arith, sym (back-held l room back-sound back-sized held) ∙ e))
 
   back-is : ((i : ℕ) → getD l i 0 < 256) → decodedKind1 (backRoom l room) ≡ decoded l
   back-is o =
@@ -104,6 +92,7 @@ forward-refused l room =
     record {
       unsound = λ h. left _ _ h;
       no-size = λ n. by-test (λ (r : ℕ). r ≡ notSound) (λ _. left _ _ (ne-eqb _ _ n)) (λ _. refl);
+      done = λ h n. store-done (decodedKind1 l) room h n;
       stays = λ r. (left _ _ (ne-eqb _ _ r), store-stays (decodedKind1 l) room r);
     }
 
@@ -117,6 +106,7 @@ back-refused l room =
     record {
       unsound = back-unsound l room;
       no-size = λ n. back-size l room (ne-eqb _ _ n);
+      done = λ h n ours theirs. back-done l room h (eq-eqb _ _ n) (held-octets l h ∙ both-none ours theirs);
       held = λ h n. (
         λ r none.
             omega (arith, sym (back-done l room h (eq-eqb _ _ n) (held-octets l h ∙ both-none (none .0) (none .1))) ∙ r),
@@ -126,13 +116,10 @@ back-refused l room =
     }
   where
     not-both : sound (decoded l) ≡ true → ((getD l 22 0 ≡ 0) × (getD l 23 0 ≡ 0) → ⊥) → holdsNone (decoded l) ≡ false
-    not-both h some = go (holdsNone (decoded l)) refl
-      where
-        go : (x : Bool) → holdsNone (decoded l) ≡ x → holdsNone (decoded l) ≡ false
-        go false e = e
-        go true e =
-            let f = sym (held-octets l h) ∙ e in
-            absurd (some (empty-is _ (and-first (empty (getD l 22 0)) _ f), empty-is _ (and-second (empty (getD l 22 0)) _ f)))
+    not-both h some =
+        fails-if (holdsNone (decoded l)) (λ e.
+        let f = sym (held-octets l h) ∙ e in
+        some (empty-is _ (and-first (empty (getD l 22 0)) _ f), empty-is _ (and-second (empty (getD l 22 0)) _ f)))
 
 pub moves-refused : MovesRefused
 moves-refused = record { forward-refused = forward-refused; back-refused = back-refused }

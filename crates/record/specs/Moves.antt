@@ -76,11 +76,13 @@ BackAndThere =
 pub record ForwardRefused (l room : List ℕ) : Type 0 where
   pub unsound : sound (decodedKind1 l) ≡ false → forward l room .refusal ≡ notSound
   pub no-size : (length room ≡ recordLength → ⊥) → forward l room .refusal ≡ notSound
+  pub done : sound (decodedKind1 l) ≡ true → length room ≡ recordLength → forward l room .refusal ≡ notRefused
   pub stays : (forward l room .refusal ≡ notRefused → ⊥) → (forward l room .lost ≡ 0) × (forwardRoom l room ≡ room)
 
 pub record BackRefused (l room : List ℕ) : Type 0 where
   pub unsound : sound (decoded l) ≡ false → backRefusal l room ≡ notSound
   pub no-size : (length room ≡ kind1Length → ⊥) → backRefusal l room ≡ notSound
+  pub done : sound (decoded l) ≡ true → length room ≡ kind1Length → getD l 22 0 ≡ 0 → getD l 23 0 ≡ 0 → backRefusal l room ≡ notRefused
   -- "13 exactly when an octet is not 0"
   pub held :
       sound (decoded l) ≡ true → length room ≡ kind1Length

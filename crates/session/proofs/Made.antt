@@ -10,7 +10,7 @@ use lib.Dec.{eqb, lit<, lit≤}
 use borrow.Author.Tests.{eqb-true}
 use Rattle.choice.specs.Pick.{pick}
 use Rattle.choice.proofs.Branch.{by-test, pick-both, taken, left}
-use Rattle.choice.proofs.Tests.{and-first}
+use Rattle.choice.proofs.Tests.{fails-if, and-first}
 use Rattle.sets.specs.Set.{has, one, union, minus, empty, within}
 use Rattle.sets.proofs.Bounds.{minus-lt, union-lt}
 use Rattle.sets.proofs.Flags as flag
@@ -303,11 +303,7 @@ changed-mismatched s n on = same-mismatched s (heldToReady s) (s .flags) (s .dis
 -- ---- after an Initialization
 module _ (s : Session) (r : Sound s) (ready : isReady s ≡ true) (a : List ℕ) (found : Reading) where
   unforced : inForce s ≡ false
-  unforced = go (inForce s) refl
-    where
-      go : (x : Bool) → inForce s ≡ x → inForce s ≡ false
-      go true e = never (r .force-open e) (ready-shut (s .state) (r .state) ready)
-      go false e = e
+  unforced = fails-if (inForce s) (λ e. never (r .force-open e) (ready-shut (s .state) (r .state) ready))
 
   pub opened-kept : (k : ℕ) → has (one inForceBit) k ≡ false → has (one dynamicBit) k ≡ false → has (afterInitialization s a found .flags) k ≡ has (s .flags) k
   unfolding afterInitialization

@@ -5,7 +5,7 @@ use mathlib.Core.Logic.{⊎-elim}
 use mathlib.Core.Bool.{Bool, true, false, not, _||_, true≢false}
 use Prim.Native.Nat.{ℕ}
 use native.Mathlib.Decide.{ℕ-discrete}
-use Rattle.choice.proofs.Tests.{and-first, and-second, and-both, or-first, or-second, or-either, not-false, same-test}
+use Rattle.choice.proofs.Tests.{fails-if, and-first, and-second, and-both, or-first, or-second, or-either, not-false, same-test}
 use Rattle.sets.specs.Set.{has, common, empty, meets, with}
 use Rattle.sets.proofs.Members.{has-common, has-none, has-with-same, has-with-other}
 use Rattle.sets.proofs.Subsets.{lt-pow, empty-lacks}
@@ -37,11 +37,7 @@ module _ (a b : ℕ) where
 
 -- the empty set meets none
 pub meets-none : (a : ℕ) → meets a 0 ≡ false
-meets-none a = go (meets a 0) refl
-  where
-    go : (x : Bool) → meets a 0 ≡ x → meets a 0 ≡ false
-    go true e = let s = meets-shared a 0 e in absurd (true≢false (sym (s .second) ∙ has-none (s .place)))
-    go false e = e
+meets-none a = fails-if (meets a 0) (λ e. let s = meets-shared a 0 e in true≢false (sym (s .second) ∙ has-none (s .place)))
 
 -- one member more
 pub meets-with : (a b k : ℕ) → meets a (with b k) ≡ meets a b || has a k

@@ -8,7 +8,7 @@ use native.Mathlib.Omega.{arith}
 use lib.Dec.{lit<}
 use lib.Pow.{pow-mono}
 use borrow.Author.Tests.{eqb-true, eq-eqb}
-use Rattle.choice.proofs.Tests.{and-first, and-second, and-both, not-false}
+use Rattle.choice.proofs.Tests.{holds-if, and-first, and-second, and-both, not-false}
 use Rattle.sets.specs.Set.{has, common, union, minus, empty, within, Within}
 use Rattle.sets.proofs.Members.{has-common, has-union, has-minus, has-none, ext}
 
@@ -88,11 +88,9 @@ within-holds a b f = lacks-empty (minus a b) (λ k h. and-not (has a k) (has b k
 
 pub within-means : (a b : ℕ) → within a b ≡ true → Within a b
 unfolding within
-within-means a b h k q = go (has b k) refl
-  where
-    go : (y : Bool) → has b k ≡ y → has b k ≡ true
-    go true e = e
-    go false e = absurd (true≢false (sym (has-minus a b k ∙ ap (λ (x : Bool). x && not (has b k)) q ∙ ap not e) ∙ empty-lacks (minus a b) k h))
+within-means a b h k q =
+    holds-if (has b k) (λ e.
+    true≢false (sym (has-minus a b k ∙ ap (λ (x : Bool). x && not (has b k)) q ∙ ap not e) ∙ empty-lacks (minus a b) k h))
 
 -- ---- what is left of a set without another
 pub nothing-left : (a b : ℕ) → Within a b → minus a b ≡ 0
