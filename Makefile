@@ -109,7 +109,8 @@ mutants: $(library)
 
 # For the gate: one rule of each part, and one fault of the library.
 few := area-3-before-5 tac-by-position permitted-despite-sac change-9-not-asked at-limit-never wish-7-before-unchanged \
-       capability-theirs-alone record-lists-swapped row-another-touched total-66-losing-taken library-writes-behind
+       capability-theirs-alone forward-lost-all-when-open back-13-before-10-by-the-room record-lists-swapped row-another-touched \
+       total-66-losing-taken library-writes-behind
 mutants-few: $(library)
 	@$(here) tests/mutants/run --calls 200000 --seed $(SEED) $(few)
 
