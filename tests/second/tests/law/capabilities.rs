@@ -384,15 +384,7 @@ fn over_any_events_holding_more_never_permits_less() {
     let mut numbers = Numbers(6);
     let mut met = [0; 8];
     for _ in 0..400 {
-        let made = Made {
-            initiating: numbers.chance(5),
-            active: numbers.chance(5),
-            uses_tac: numbers.chance(8),
-            drops: numbers.chance(5),
-            protected: numbers.below(0x400) as u32,
-            enabled: (numbers.next() & 0x1FFF) as u32,
-            ..Made::default()
-        };
+        let made = numbers.made();
         let mut sessions: Vec<Box24> = (0..8).map(|ours| made.holding(ours).make()).collect();
         for _ in 0..30 {
             let (area, number) = (numbers.area(), numbers.below(20) as u32);

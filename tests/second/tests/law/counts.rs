@@ -17,14 +17,9 @@ fn negotiated(session: &Fields) -> u16 {
 
 fn fresh(numbers: &mut Numbers) -> Fields {
     Made {
-        initiating: numbers.chance(5),
-        active: numbers.chance(5),
         uses_tac: numbers.chance(9),
-        drops: numbers.chance(5),
-        protected: numbers.below(0x400) as u32,
         enabled: (numbers.next() & numbers.next() & 0x1FFF) as u32,
-        number: numbers.next() as u32,
-        capabilities: numbers.below(8) as u32,
+        ..numbers.made()
     }
     .make()
     .loaded()

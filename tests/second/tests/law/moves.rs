@@ -170,14 +170,8 @@ fn over_any_events() {
     let mut met = [0; 3];
     for _ in 0..400 {
         let made = Made {
-            initiating: numbers.chance(5),
-            active: numbers.chance(5),
-            uses_tac: numbers.chance(8),
-            drops: numbers.chance(5),
-            protected: numbers.below(0x400) as u32,
-            enabled: (numbers.next() & 0x1FFF) as u32,
             capabilities: (numbers.next() & numbers.next() & 7) as u32,
-            ..Made::default()
+            ..numbers.made()
         };
         let mut session = made.make();
         for _ in 0..30 {

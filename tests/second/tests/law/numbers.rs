@@ -1,4 +1,6 @@
-//! Numbers and areas for long runs of events.
+//! Numbers, settings and areas for long runs of events.
+
+use crate::Made;
 
 /// Numbers that look random and always are the same.
 pub struct Numbers(pub u64);
@@ -18,6 +20,20 @@ impl Numbers {
 
     pub fn chance(&mut self, of_ten: u64) -> bool {
         self.below(10) < of_ten
+    }
+
+    /// Settings of any sort, most of them with TAC.
+    pub fn made(&mut self) -> Made {
+        Made {
+            initiating: self.chance(5),
+            active: self.chance(5),
+            uses_tac: self.chance(8),
+            drops: self.chance(5),
+            protected: self.below(0x400) as u32,
+            enabled: (self.next() & 0x1FFF) as u32,
+            number: self.next() as u32,
+            capabilities: self.below(8) as u32,
+        }
     }
 
     /// An area that a reader must take.

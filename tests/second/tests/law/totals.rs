@@ -521,18 +521,7 @@ fn sixteen_comes_last() {
 }
 
 fn fresh(numbers: &mut Numbers) -> Fields {
-    Made {
-        initiating: numbers.chance(5),
-        active: numbers.chance(5),
-        uses_tac: numbers.chance(8),
-        drops: numbers.chance(5),
-        protected: numbers.below(0x400) as u32,
-        enabled: (numbers.next() & 0x1FFF) as u32,
-        number: numbers.next() as u32,
-        capabilities: numbers.below(8) as u32,
-    }
-    .make()
-    .loaded()
+    numbers.made().make().loaded()
 }
 
 /// Any event of a row of this length, now and then one that must be refused.

@@ -48,14 +48,8 @@ fn more_applications_never_cost_a_kind() {
     let mut compared = 0;
     for _ in 0..4000 {
         let made = Made {
-            initiating: numbers.chance(5),
-            active: numbers.chance(5),
-            uses_tac: numbers.chance(8),
-            drops: numbers.chance(5),
-            protected: numbers.below(0x400) as u32,
             enabled: (numbers.next() & numbers.next() & 0x1FFF) as u32,
-            number: numbers.next() as u32,
-            capabilities: numbers.below(8) as u32,
+            ..numbers.made()
         };
         let mut first = made.make();
         let mut second = Made {
