@@ -1,12 +1,13 @@
 -- What holds of the moves holds under their calls, since each call's contract is the definition. And a record of kind 1 is no record of kind 2, so that it
 -- holds no sound session for any other call. Assumes nothing.
 use Prim.Native.Nat.{ℕ}
-use mathlib.Core.Path.{_≡_, refl, sym, ap, _∙_}
+use mathlib.Core.Path.{_≡_, sym, ap, _∙_}
 use mathlib.Core.Bool.{false}
 use mathlib.Core.List.{List}
 use native.Mathlib.Omega.{arith}
 use borrow.Author.Tests.{ne-eqb}
 use Rattle.choice.proofs.Branch.{left}
+use Rattle.choice.proofs.Tests.{fails-if}
 use Rattle.refusals.specs.Refusals.{notRefused, notSound}
 use Rattle.session.specs.declared.Answer.{Answer}
 use Rattle.session.specs.declared.After.{After}
@@ -14,7 +15,7 @@ use Rattle.session.specs.declared.Kinds.{Kinds}
 use Rattle.session.specs.declared.Permission.{Permission}
 use Rattle.session.specs.declared.Reason.{Reason}
 use Rattle.session.specs.declared.Retry.{Retry}
-use Rattle.session.specs.Session.{sound, spareZero}
+use Rattle.session.specs.Session.{sound}
 use Rattle.session.specs.With.{noSession}
 use Rattle.session.specs.Events.{Event, step}
 use Rattle.session.specs.Questions.{permittedKinds, permission, whyNot, retryInterval}
@@ -24,6 +25,7 @@ use Rattle.record.specs.Record.{decoded}
 use Rattle.record.specs.Carried.{recordAfter}
 use Rattle.record.specs.Loaded.{load}
 use Rattle.record.specs.Moves.{forward, forwardRoom, backRefusal, backRoom}
+use Rattle.record.proofs.RoundTrip.{never-sound}
 use Rattle.record.proofs.ThereAndBack.{there-and-back, back-and-there, one-kind}
 use Rattle.record.proofs.MovedSession.{kept-sound, kept-long}
 use Rattle.promises.specs.Calls.{Called}
@@ -48,10 +50,6 @@ calls-move =
           );
     }
 
-none-unsound : sound noSession ≡ false
-unfolding sound spareZero
-none-unsound = refl
-
 pub kind1-refused : Kind1Refused
 unfolding permittedKinds permission whyNot retryInterval load recordAfter
 kind1-refused l h =
@@ -66,7 +64,7 @@ kind1-refused l h =
     }
   where
     not-sound : sound (decoded l) ≡ false
-    not-sound = ap sound (one-kind .kind1 l h) ∙ none-unsound
+    not-sound = ap sound (one-kind .kind1 l h) ∙ fails-if (sound noSession) never-sound
 
     event : (e : Event) (r : Answer) (l′ : List ℕ) → Called e l r l′ → (r .refusal ≡ notSound) × (l′ ≡ l)
     event e r l′ c =

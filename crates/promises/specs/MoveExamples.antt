@@ -30,7 +30,7 @@ room23 = room22 ++ (23 ∷ [])
 abbrev pub room24 : List ℕ
 room24 = room23 ++ (24 ∷ [])
 
--- Open and stored as kind 1: state, flags, enabled, listed, protected kinds and disabled are told, the rest is 0
+-- Open and stored as kind 1: flags, enabled, listed, protected kinds and disabled are told; no Hello is recorded, and the next message number is 1
 abbrev pub openKind1 : ℕ → ℕ → ℕ → ℕ → ℕ → List ℕ
 openKind1 flags enabled listed protects disabled =
     head1 ++ (1 ∷ flags ∷ enabled ∷ 0 ∷ listed ∷ 0 ∷ protects ∷ 0 ∷ disabled ∷ 0 ∷ 0 ∷ 0 ∷ 0 ∷ 0 ∷ 1 ∷ 0 ∷ 0 ∷ 0 ∷ [])

@@ -82,6 +82,16 @@ pub read-kind1 : (l : List ℕ) → sound (decodedKind1 l) ≡ true → Read kin
 unfolding decodedKind1
 read-kind1 l = sound-read kind1Length kind1LengthField kind1Field 0 0 l
 
+-- what a head says, field by field
+pub headed-means : (long kind : ℕ) (l : List ℕ) → headed long kind l ≡ true → (leAt16 l 0 ≡ long) × (leAt16 l 2 ≡ kind) × (getD l 13 0 ≡ 0)
+unfolding headed
+headed-means long kind l h =
+    let rest = and-second (eqb (leAt16 l 0) long) _ h in (
+      eqb-true (leAt16 l 0) long (and-first (eqb (leAt16 l 0) long) _ h),
+      eqb-true (leAt16 l 2) kind (and-first (eqb (leAt16 l 2) kind) _ rest),
+      eqb-true (getD l 13 0) 0 (and-second (eqb (leAt16 l 2) kind) _ rest),
+    )
+
 -- ---- back and there
 -- a list is its elements, one after another
 abbrev upto : ℕ → (ℕ → ℕ) → List ℕ
@@ -125,14 +135,10 @@ module _ (l : List ℕ) (o : (i : ℕ) → getD l i 0 < 256) where
   -- and so is the record, if what stands behind it is its own
   again : (octets long kind ours theirs : ℕ) (behind : List ℕ) → upto kind1Length (λ i. getD l i 0) ++ behind ≡ upto octets (λ i. getD l i 0)
       → Read octets long kind ours theirs l → octetsOf long kind (fields l ours theirs) behind ≡ l
-  unfolding headed
   again octets long kind ours theirs behind own r =
-      let rest = and-second (eqb (leAt16 l 0) long) _ (r .is-headed) in
-      let h0 : leAt16 l 0 ≡ long = eqb-true (leAt16 l 0) long (and-first (eqb (leAt16 l 0) long) _ (r .is-headed)) in
-      let h2 : leAt16 l 2 ≡ kind = eqb-true (leAt16 l 2) kind (and-first (eqb (leAt16 l 2) kind) _ rest) in
-      let z : getD l 13 0 ≡ 0 = eqb-true (getD l 13 0) 0 (and-second (eqb (leAt16 l 2) kind) _ rest) in
-      ap₂ (λ (a b : ℕ). octetsOf a b (fields l ours theirs) behind) (sym h0) (sym h2)
-      ∙ put-again ours theirs behind z
+      let head = headed-means long kind l (r .is-headed) in
+      ap₂ (λ (a b : ℕ). octetsOf a b (fields l ours theirs) behind) (sym (head .0)) (sym (head .1))
+      ∙ put-again ours theirs behind (head .2)
       ∙ own
       ∙ ap (λ (m : ℕ). upto m (λ i. getD l i 0)) (sym (r .is-long))
       ∙ sym (list-is l)

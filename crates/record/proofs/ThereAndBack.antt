@@ -5,7 +5,7 @@ use mathlib.Core.Path.{_≡_, refl, sym, ap, ap₂, _∙_}
 use mathlib.Core.Bool.{true, false, _&&_}
 use mathlib.Core.List.{List}
 use native.Mathlib.Omega.{arith}
-use borrow.Author.Tests.{eqb-true, eq-eqb, ne-eqb}
+use borrow.Author.Tests.{eq-eqb, ne-eqb}
 use lib.Dec.{eqb}
 use lib.ListN.{length, getD}
 use Rattle.choice.proofs.Branch.{taken, left, by-test}
@@ -15,12 +15,12 @@ use Rattle.sets.proofs.Subsets.{empty-is}
 use Rattle.octets.specs.Octets.{leAt16}
 use Rattle.refusals.specs.Refusals.{notRefused, notSound}
 use Rattle.session.specs.declared.Session.{Session}
-use Rattle.session.specs.Session.{held, sound}
+use Rattle.session.specs.Session.{sound}
 use Rattle.session.specs.With.{noSession}
-use Rattle.record.specs.Record.{recordLength, lengthField, kindField, kind1Length, kind1LengthField, kind1Field, encodedKind1, storedIn, headed, decoded, decodedKind1}
+use Rattle.record.specs.Record.{recordLength, lengthField, kindField, kind1Length, kind1LengthField, kind1Field, encodedKind1, storedIn, decoded, decodedKind1}
 use Rattle.record.specs.Loaded.{storeRefusal, storeOctets}
 use Rattle.record.specs.Moves.{forward, forwardRoom, holdsNone, backRefusal, backRoom, ThereAndBack, BackAndThere, ForwardRefused, BackRefused, MovesRefused, OneKind}
-use Rattle.record.proofs.RoundTrip.{read-back-kind1, read, read-kind1, narrow, narrow-kind1, stored-back-kind1, stored-back, stored-is}
+use Rattle.record.proofs.RoundTrip.{read-back-kind1, read, read-kind1, headed-means, narrow, narrow-kind1, stored-back-kind1, stored-back, stored-is}
 use Rattle.record.proofs.ByTest.{store-done, store-stays, back-unsound, back-size, back-held, back-done, done-room, stays-room}
 
 -- ---- a record of kind 1 holds no capability
@@ -35,15 +35,22 @@ both-none : {a b : ℕ} → a ≡ 0 → b ≡ 0 → (empty a && empty b) ≡ tru
 unfolding empty
 both-none e f = ap₂ (λ (a b : ℕ). eqb a 0 && eqb b 0) e f
 
--- ---- there and back
-module _ (l room : List ℕ) (o : (i : ℕ) → getD l i 0 < 256) (h : sound (decodedKind1 l) ≡ true) (n : length room ≡ recordLength) where
-  forward-done : forward l room .refusal ≡ notRefused
-  unfolding forward
-  forward-done = store-done (decodedKind1 l) room h n
+-- ---- refused, on the way forward
+forward-refused : (l room : List ℕ) → ForwardRefused l room
+unfolding forward forwardRoom storeRefusal
+forward-refused l room =
+    record {
+      unsound = λ h. left _ _ h;
+      no-size = λ n. by-test (λ (r : ℕ). r ≡ notSound) (λ _. left _ _ (ne-eqb _ _ n)) (λ _. refl);
+      done = λ h n. store-done (decodedKind1 l) room h n;
+      stays = λ r. (left _ _ (ne-eqb _ _ r), store-stays (decodedKind1 l) room r);
+    }
 
-  pub there-is : decoded (forwardRoom l room) ≡ decodedKind1 l
-  unfolding forwardRoom
-  there-is = stored-is (decodedKind1 l) room h (narrow-kind1 l o) n
+-- ---- there and back
+pub there-is : (l room : List ℕ) → ((i : ℕ) → getD l i 0 < 256) → sound (decodedKind1 l) ≡ true → length room ≡ recordLength
+    → decoded (forwardRoom l room) ≡ decodedKind1 l
+unfolding forwardRoom
+there-is l room o h n = stored-is (decodedKind1 l) room h (narrow-kind1 l o) n
 
 pub there-and-back : ThereAndBack
 there-and-back l room room′ o h n n′ =
@@ -51,7 +58,7 @@ there-and-back l room room′ o h n n′ =
     let none = none-held l in
     let back = back-done (forwardRoom l room) room′ (ap sound is ∙ h) (eq-eqb _ _ n′) (ap holdsNone is ∙ both-none (none .0) (none .1)) in
     record {
-      there = forward-done l room o h n;
+      there = forward-refused l room .done h n;
       back = back;
       octets = done-room (forwardRoom l room) room′ back ∙ ap encodedKind1 is ∙ stored-back-kind1 l o h;
     }
@@ -85,17 +92,7 @@ back-and-there l room room′ o e n =
       octets = ap (λ (s : Session). storeOctets s room′) is ∙ taken _ _ h ∙ taken _ _ (eq-eqb _ _ n) ∙ stored-back l o h;
     }
 
--- ---- refused
-forward-refused : (l room : List ℕ) → ForwardRefused l room
-unfolding forward forwardRoom storeRefusal
-forward-refused l room =
-    record {
-      unsound = λ h. left _ _ h;
-      no-size = λ n. by-test (λ (r : ℕ). r ≡ notSound) (λ _. left _ _ (ne-eqb _ _ n)) (λ _. refl);
-      done = λ h n. store-done (decodedKind1 l) room h n;
-      stays = λ r. (left _ _ (ne-eqb _ _ r), store-stays (decodedKind1 l) room r);
-    }
-
+-- ---- refused, on the way back
 -- the octets of capabilities are the session's
 held-octets : (l : List ℕ) → sound (decoded l) ≡ true → holdsNone (decoded l) ≡ (empty (getD l 22 0) && empty (getD l 23 0))
 unfolding decoded
@@ -126,23 +123,20 @@ moves-refused = record { forward-refused = forward-refused; back-refused = back-
 
 -- ---- one kind or the other
 other-kind : (l : List ℕ) → (leAt16 l 2 ≡ kindField → ⊥) → decoded l ≡ noSession
-unfolding decoded headed
+unfolding decoded
 other-kind l not-2 =
-    by-test None
-    (λ _. by-test None (λ h. absurd (not-2 (eqb-true _ _ (and-first (eqb (leAt16 l 2) kindField) _ (and-second (eqb (leAt16 l 0) lengthField) _ h))))) (λ _. refl))
-    (λ _. refl)
+    by-test None (λ _. by-test None (λ h. absurd (not-2 (headed-means lengthField kindField l h .1))) (λ _. refl)) (λ _. refl)
   where
     None : Session → Type 0
     None s = s ≡ noSession
 
 pub one-kind : OneKind
-unfolding decodedKind1 headed
+unfolding decodedKind1
 one-kind =
     record {
       other-kind = other-kind;
       kind1 = λ l h.
-          let r = read-kind1 l h in
-          let is-1 : leAt16 l 2 ≡ kind1Field = eqb-true _ _ (and-first (eqb (leAt16 l 2) kind1Field) _ (and-second (eqb (leAt16 l 0) kind1LengthField) _ (r .is-headed))) in
+          let is-1 = headed-means kind1LengthField kind1Field l (read-kind1 l h .is-headed) .1 in
           other-kind l (λ is-2. omega (arith, sym is-1 ∙ is-2));
       kind2 = λ l h. left _ _ (ne-eqb _ _ (λ (n : length l ≡ kind1Length). omega (arith, sym n ∙ read l h .is-long)));
     }
