@@ -11,7 +11,7 @@ TACIT_LIB_DIR ?= build
 
 library := $(TACIT_LIB_DIR)/libtacit.a
 here    := TACIT_LIB_DIR="$(abspath $(TACIT_LIB_DIR))"
-proved  := crates.txt $(shell find crates -name '*.rt' -o -name '*.antt' 2>/dev/null)
+proved  := crates.txt $(shell find crates -name out -prune -o \( -name '*.rt' -o -name '*.antt' \) -print 2>/dev/null)
 .PHONY: all help install demo test documents c-test compare mutants mutants-few second clean distclean always
 .DELETE_ON_ERROR:
 
@@ -33,18 +33,18 @@ help:
 	@echo "make fuzz       the two on inputs that a fuzzer makes; SECONDS=$(SECONDS) (*)"
 	@echo "make outside    what the library writes read by Wireshark, what FRR sends read by the library (*)"
 	@echo "make bench      instructions of each call, beside plain C and the second implementation, into docs/BENCHMARK.md (*)"
-	@echo "make clean      remove build/; target/, with what is proved already, stays"
-	@echo "make distclean  remove target/ too"
+	@echo "make clean      remove build/; crates/*/out, with what is proved already, stays"
+	@echo "make distclean  remove target/ and crates/*/out too"
 	@echo "TACIT_LIB_DIR   where libtacit.a is, to check another one (build)"
 	@echo "(*)             installs Debian packages by apt-get where they are missing; no other target installs any"
 
 # Of what rt says, a line for each crate that is proved.
 define shown
 /^fn .*: proved/              { functions++ }
-/^rt: [a-z]+ proved/          { crate = $$2; sub(/^[^(]*/, " "); show(crate, $$0) }
-/^rt: target\/staticlib\/lib/ { show("tacit", "") }
-function show(crate, how) {
-    printf "   %-9s proved%s%s\n", crate, functions ? ": " functions " functions" : "", how
+/^crate .*: modules loaded/   { crate = $$2; sub(/:$$/, "", crate) }
+/^logic=proved/               { show() }
+function show() {
+    printf "   %-9s proved%s\n", crate, functions ? ": " functions " functions" : ""
     functions = 0
     fflush()
 }
@@ -56,8 +56,8 @@ build/libtacit.a: $(proved)
 	@command -v rt >/dev/null || { echo "rt, the Rattle toolchain, is not on the PATH: libtacit.a cannot be built without it (see README.md)" >&2; exit 1; }
 	@mkdir -p build
 	@echo "proving the library crate by crate; from nothing this takes some two minutes"
-	@bash -o pipefail -c 'rt staticlib tacit 2>&1 | tee build/staticlib.log | awk "$$shown"' || { cat build/staticlib.log >&2; exit 1; }
-	@cp target/staticlib/libtacit.a $@
+	@bash -o pipefail -c 'cd crates/tacit_c && rt lib --cpu x86-64 2>&1 | tee ../../build/staticlib.log | awk "$$shown"' || { cat build/staticlib.log >&2; exit 1; }
+	@cp crates/tacit_c/out/libtacit_c.a $@
 
 build/tacit.h: include/tacit.h
 	@mkdir -p build
@@ -122,9 +122,9 @@ second:
 
 clean:
 	rm -rf build
-	@echo "target/, with what is proved already, stays; 'make distclean' removes it too"
+	@echo "target/ and crates/*/out, with what is proved already, stay; 'make distclean' removes them too"
 
 distclean:
-	rm -rf build target
+	rm -rf build target crates/*/out
 
 -include tests/tests.mk

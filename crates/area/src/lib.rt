@@ -1,3 +1,4 @@
+#![tactic(auto)]
 // Reads a parameter area: TLVs one after another, most significant octet first.
 ghost use Rattle.std.specs.Prelude.{◌≡◌, true, ◌+◌, ◌≤◌, ◌<◌, length};
 ghost use Rattle.area.specs.Found.{refused, capability_stood, with_capability};
@@ -7,7 +8,7 @@ use kinds::Capability;
 
 // A part of an area: where it starts, and how many octets it has.
 #[repr(C)]
-#[derive(Drop)]
+#[derive(Clone, Copy)]
 pub struct Span {
     pub start: u16,
     pub len: u16,
@@ -16,7 +17,7 @@ pub struct Span {
 // What was found in an area. A TAC has one octet at the least and a SAC two, so a part without octets is an absent one. Of the capabilities, those
 // that are present, and of these the ones with S = 1.
 #[repr(C)]
-#[derive(Drop)]
+#[derive(Clone, Copy)]
 pub struct Reading {
     pub refusal: u8,
     pub dynamic: bool,
@@ -72,6 +73,7 @@ fn refuse(n: u8) -> Reading
 }
 
 // One of our types: refused where it stood before, then where its length is wrong; else what is found with it.
+#[tactic(auto, unfolding(choice::specs::Pick::pick, crate::specs::Area::take_tlv))]
 fn take_tlv(again: bool, wrong: bool, found: Reading) -> Reading
     ensures { result ≡ take_tlv again wrong found }
 {
@@ -92,6 +94,7 @@ fn in_range(t: usize) -> bool
 }
 
 // S of a value; a value without octets has none.
+#[tactic(auto, unfolding(choice::specs::Pick::pick, crate::specs::Area::s_bit))]
 pub fn s_bit(value: &[u8]) -> bool
     ensures { result ≡ s_bit value.now }
 {
@@ -115,6 +118,7 @@ fn take_capability(capability: Capability, area: &[u8], value: Span, mut r: Read
 }
 
 // A whole TLV of a type in the range. One of ours is put into what was found, and any other is passed over.
+#[tactic(auto, unfolding(choice::specs::Pick::pick, crate::specs::Area::by_type))]
 fn by_type_in_range(area: &[u8], head: usize, value: Span, mut r: Reading) -> Reading
     requires { (value.start + value.len ≤ length area.now) × (in_range (type_of head) ≡ true) }
     ensures { result ≡ by_type head value (s_bit (part area.now value)) r }
@@ -149,6 +153,7 @@ fn by_type_in_range(area: &[u8], head: usize, value: Span, mut r: Reading) -> Re
 }
 
 // A whole TLV, by its type: `head` is U, F and the type. Of ours HSMP alone lies outside the range; of the others there U decides.
+#[tactic(auto, unfolding(choice::specs::Pick::pick, crate::specs::Area::by_type))]
 fn by_type(area: &[u8], head: usize, value: Span, r: Reading) -> Reading
     requires { value.start + value.len ≤ length area.now }
     ensures { result ≡ by_type head value (s_bit (part area.now value)) r }
@@ -173,6 +178,7 @@ fn wide(x: u8) -> usize
 }
 
 // 16 bits at a place of the octets.
+#[tactic(auto, unfolding(choice::specs::Pick::pick, crate::specs::Area::at16))]
 pub fn at16(a: &[u8], at: usize) -> usize
     requires { at + 2 ≤ length a.now }
     ensures value { result ≡ at16 a.now at }
@@ -193,6 +199,7 @@ fn part_at(at: usize, len: usize) -> Span
 }
 
 // The TLV at a place, after r was found.
+#[tactic(auto, unfolding(choice::specs::Pick::pick, crate::specs::Area::tlv_at))]
 fn tlv_at(a: &[u8], at: usize, r: Reading) -> Reading
     requires { (at ≤ length a.now) × (length a.now ≤ area_most) }
     ensures { result ≡ tlv_at a.now at r }
@@ -209,6 +216,7 @@ fn tlv_at(a: &[u8], at: usize, r: Reading) -> Reading
 }
 
 // What reading the whole area finds. One walk serves Initialization and Capability messages.
+#[tactic(auto, unfolding(crate::specs::Area::read_area, choice::specs::Pick::pick))]
 pub fn read_area(area: &[u8]) -> Reading
     ensures { result ≡ read_area area.now }
 {
@@ -229,6 +237,7 @@ pub fn read_area(area: &[u8]) -> Reading
 }
 
 // The octets of a part that lies within the area, as the parts of a reading do.
+#[tactic(auto, unfolding(choice::specs::Pick::pick, crate::specs::Area::part))]
 pub fn part_within(area: &[u8], s: Span) -> &[u8]
     requires { s.start + s.len ≤ length area.now }
     ensures { result.now ≡ part area.now s }
@@ -239,6 +248,7 @@ pub fn part_within(area: &[u8], s: Span) -> &[u8]
 }
 
 // The octets of a part. Where the part does not lie within the area, those of them that do.
+#[tactic(auto, unfolding(choice::specs::Pick::pick, crate::specs::Area::part))]
 pub fn part_of(area: &[u8], s: Span) -> &[u8]
     ensures { result.now ≡ part area.now s }
 {

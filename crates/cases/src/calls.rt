@@ -38,7 +38,8 @@ pub(crate) fn area_of(call: &[u8]) -> &[u8] {
 
 // How many octets each call has, by its number; one with an area has as many more as its second and third say.
 const LENGTHS: [usize; 24] = [
-    0, 22, // create
+    0, // no call
+    22, // create
     WITH_AREA, // initialization
     WITH_AREA, // capability
     7, // local change

@@ -1,44 +1,41 @@
 // The printed lines: numbers and octets in hexadecimal, a space before each but the first.
 use area::Span;
-use libc::STDOUT_FILENO;
 use session::Answer;
+use std::io;
 
-pub(crate) fn number(n: u64) {
-    io::write_all(STDOUT_FILENO, b" ");
-    io::print_hex(STDOUT_FILENO, n, 1);
+pub(crate) fn number(rt: &impl Print, n: u64) -> io::Result<()> {
+    print!(rt; " {n:x}")
 }
 
-pub(crate) fn answer(a: Answer) {
-    number(a.refusal as u64);
-    number(a.outcome as u64);
-    number(a.lost as u64);
-    number(a.gained as u64);
-    number(a.written as u64);
+pub(crate) fn answer(rt: &impl Print, a: Answer) -> io::Result<()> {
+    number(rt, a.refusal as u64)?;
+    number(rt, a.outcome as u64)?;
+    number(rt, a.lost as u64)?;
+    number(rt, a.gained as u64)?;
+    number(rt, a.written as u64)
 }
 
-pub(crate) fn part(p: Span) {
-    number(p.start as u64);
-    number(p.len as u64);
+pub(crate) fn part(rt: &impl Print, p: Span) -> io::Result<()> {
+    number(rt, p.start as u64)?;
+    number(rt, p.len as u64)
 }
 
-fn two_digits(octet: u8) {
-    io::print_hex(STDOUT_FILENO, octet as u64, 2);
+fn two_digits(rt: &impl Print, octet: u8) -> io::Result<()> {
+    print!(rt; "{octet:02x}")
 }
 
-fn digits(octets: &[u8]) {
-    let mut i = 0;
-    while i < octets.len() {
-        two_digits(octets[i]);
-        i += 1;
+fn digits(rt: &impl Print, octets: &[u8]) -> io::Result<()> {
+    for octet in octets {
+        two_digits(rt, *octet)?;
     }
+    Ok(())
 }
 
 // Octets as one word, two digits each; "-" for none.
-pub(crate) fn octets(octets: &[u8]) {
-    io::write_all(STDOUT_FILENO, b" ");
-    if octets.len() == 0 {
-        io::write_all(STDOUT_FILENO, b"-");
-        return;
+pub(crate) fn octets(rt: &impl Print, octets: &[u8]) -> io::Result<()> {
+    print!(rt; " ")?;
+    if octets.is_empty() {
+        return print!(rt; "-");
     }
-    digits(octets);
+    digits(rt, octets)
 }

@@ -1,28 +1,47 @@
+#![tactic(auto)]
 // Replays stored calls over one record and prints what comes out of each. The head of tests/second/src/bin/make_cases.rs says what a call is
 // and how it is printed.
-use libc::STDIN_FILENO;
+ghost use Rattle.std.specs.Prelude.{◌≤◌, IfOk, length};
+
+use std::io::{self, Read};
 
 mod calls;
 mod lines;
 mod play;
 
 // One call after another, up to the first that is none of ours or cut short.
-fn replay(lent: &mut [u8], input: &[u8]) {
+fn replay(rt: &impl Print, lent: &mut [u8], input: &[u8]) -> io::Result<()> {
     let mut at = 0;
     while at < input.len() {
         let call = &input[at..];
         let size = calls::size(call);
         if size == 0 {
-            return;
+            return Ok(());
         }
-        play::one(lent, call);
+        play::one(rt, lent, call)?;
         at += size;
     }
+    Ok(())
 }
 
-fn main() {
+// Reads until the buffer is full or the input ends, and answers how many octets are in it.
+fn read_full<R: Read>(from: &mut R, buffer: &mut [u8]) -> io::Result<usize>
+    ensures { IfOk result (λ n. n ≤ length buffer.new) }
+{
+    let mut done = 0;
+    for _ in 0..u64::MAX {
+        let n = from.read(&mut buffer[done..])?;
+        if n == 0 {
+            break;
+        }
+        done += n;
+    }
+    Ok(done)
+}
+
+fn main(rt: HostRuntime) -> io::Result<()> {
     let mut input = [0u8; 32768];
     let mut lent = [0u8; record::LENGTH];
-    let n = io::read_full(STDIN_FILENO, &mut input);
-    replay(&mut lent, &input[..n]);
+    let n = read_full(&mut rt.reader(), &mut input)?;
+    replay(&rt, &mut lent, &input[..n])
 }

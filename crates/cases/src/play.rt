@@ -1,11 +1,11 @@
 // Each call, made as C makes it, and its line.
 use crate::{calls, lines};
-use libc::STDOUT_FILENO;
 use row::Limits;
 use session::{Answer, Session, Settings};
+use std::io;
 use totals::Totals;
 
-fn create(lent: &mut [u8], call: &[u8]) {
+fn create(rt: &impl Print, lent: &mut [u8], call: &[u8]) -> io::Result<()> {
     let roles = calls::octet(call, 1) as u16;
     let settings = Settings {
         initiating: sets::has(roles, 0),
@@ -19,8 +19,8 @@ fn create(lent: &mut [u8], call: &[u8]) {
         capabilities: calls::number(call, 18),
     };
     let refusal = tacit::tacit_create(lent, settings);
-    lines::number(refusal as u64);
-    lines::octets(lent);
+    lines::number(rt, refusal as u64)?;
+    lines::octets(rt, lent)
 }
 
 // What an event that lends no room answers.
@@ -34,87 +34,87 @@ fn answer(lent: &mut [u8], which: u8, call: &[u8]) -> Answer {
     }
 }
 
-fn event(lent: &mut [u8], which: u8, call: &[u8]) {
-    lines::answer(answer(lent, which, call));
-    lines::octets(lent);
+fn event(rt: &impl Print, lent: &mut [u8], which: u8, call: &[u8]) -> io::Result<()> {
+    lines::answer(rt, answer(lent, which, call))?;
+    lines::octets(rt, lent)
 }
 
-fn local_change(room: &mut [u8], lent: &mut [u8], call: &[u8]) {
+fn local_change(rt: &impl Print, room: &mut [u8], lent: &mut [u8], call: &[u8]) -> io::Result<()> {
     let ta_id = calls::number(call, 1);
     let on = calls::octet(call, 5) != 0;
-    lines::answer(tacit::tacit_local_change(lent, ta_id, on, room));
-    lines::octets(lent);
-    lines::octets(room);
+    lines::answer(rt, tacit::tacit_local_change(lent, ta_id, on, room))?;
+    lines::octets(rt, lent)?;
+    lines::octets(rt, room)
 }
 
-fn wish(room: &mut [u8], lent: &mut [u8], call: &[u8]) {
+fn wish(rt: &impl Print, room: &mut [u8], lent: &mut [u8], call: &[u8]) -> io::Result<()> {
     let wishes = calls::number(call, 1);
     let disable = calls::octet(call, 9) != 0;
     let after = tacit::tacit_wish(lent, wishes, calls::number(call, 5), disable, room);
-    lines::answer(after.answer);
-    lines::number(after.wishes as u64);
-    lines::octets(lent);
-    lines::octets(room);
+    lines::answer(rt, after.answer)?;
+    lines::number(rt, after.wishes as u64)?;
+    lines::octets(rt, lent)?;
+    lines::octets(rt, room)
 }
 
-fn wish_sac(room: &mut [u8], call: &[u8]) {
+fn wish_sac(rt: &impl Print, room: &mut [u8], call: &[u8]) -> io::Result<()> {
     let w = tacit::tacit_wish_sac(calls::number(call, 1), room);
-    lines::number(w.refusal as u64);
-    lines::number(w.written as u64);
-    lines::octets(room);
+    lines::number(rt, w.refusal as u64)?;
+    lines::number(rt, w.written as u64)?;
+    lines::octets(rt, room)
 }
 
-fn wanted(call: &[u8]) {
+fn wanted(rt: &impl Print, call: &[u8]) -> io::Result<()> {
     let w = tacit::tacit_wanted(calls::number(call, 1), calls::number(call, 5));
-    lines::number(w.refusal as u64);
-    lines::number(w.wanted as u64);
+    lines::number(rt, w.refusal as u64)?;
+    lines::number(rt, w.wanted as u64)
 }
 
 // The record is the room that the octets of the call are moved into.
-fn forward(lent: &mut [u8], call: &[u8]) {
+fn forward(rt: &impl Print, lent: &mut [u8], call: &[u8]) -> io::Result<()> {
     let moved = tacit::tacit_forward(calls::area_of(call), lent);
-    lines::number(moved.refusal as u64);
-    lines::number(moved.lost as u64);
-    lines::octets(lent);
+    lines::number(rt, moved.refusal as u64)?;
+    lines::number(rt, moved.lost as u64)?;
+    lines::octets(rt, lent)
 }
 
-fn back(room: &mut [u8], lent: &[u8]) {
-    lines::number(tacit::tacit_back(lent, room) as u64);
-    lines::octets(room);
+fn back(rt: &impl Print, room: &mut [u8], lent: &[u8]) -> io::Result<()> {
+    lines::number(rt, tacit::tacit_back(lent, room) as u64)?;
+    lines::octets(rt, room)
 }
 
-fn permitted(lent: &[u8], call: &[u8]) {
+fn permitted(rt: &impl Print, lent: &[u8], call: &[u8]) -> io::Result<()> {
     let p = tacit::tacit_permitted(lent, calls::number(call, 1));
-    lines::number(p.refusal as u64);
-    lines::number(p.permitted as u64);
+    lines::number(rt, p.refusal as u64)?;
+    lines::number(rt, p.permitted as u64)
 }
 
-fn permitted_kinds(lent: &[u8]) {
+fn permitted_kinds(rt: &impl Print, lent: &[u8]) -> io::Result<()> {
     let k = tacit::tacit_permitted_kinds(lent);
-    lines::number(k.refusal as u64);
-    lines::number(k.kinds as u64);
+    lines::number(rt, k.refusal as u64)?;
+    lines::number(rt, k.kinds as u64)
 }
 
-fn retry_interval(lent: &[u8]) {
+fn retry_interval(rt: &impl Print, lent: &[u8]) -> io::Result<()> {
     let r = tacit::tacit_retry_interval(lent);
-    lines::number(r.refusal as u64);
-    lines::number(r.interval as u64);
+    lines::number(rt, r.refusal as u64)?;
+    lines::number(rt, r.interval as u64)
 }
 
-fn read(call: &[u8]) {
+fn read(rt: &impl Print, call: &[u8]) -> io::Result<()> {
     let r = tacit::tacit_read(calls::area_of(call));
     let tac = r.tac;
     let sac = r.sac;
-    lines::number(r.refusal as u64);
-    lines::number(r.dynamic as u64);
-    lines::number(r.capabilities as u64);
-    lines::number(r.holding as u64);
-    lines::part(tac);
-    lines::part(sac);
+    lines::number(rt, r.refusal as u64)?;
+    lines::number(rt, r.dynamic as u64)?;
+    lines::number(rt, r.capabilities as u64)?;
+    lines::number(rt, r.holding as u64)?;
+    lines::part(rt, tac)?;
+    lines::part(rt, sac)
 }
 
 // The record gives way to the octets of the call.
-fn replace(lent: &mut [u8], call: &[u8]) {
+fn replace(rt: &impl Print, lent: &mut [u8], call: &[u8]) -> io::Result<()> {
     octets::put(
         lent,
         area::part_of(
@@ -125,15 +125,15 @@ fn replace(lent: &mut [u8], call: &[u8]) {
             },
         ),
     );
-    lines::octets(lent);
+    lines::octets(rt, lent)
 }
 
-fn limits(l: Limits) {
+fn limits(rt: &impl Print, l: Limits) -> io::Result<()> {
     let each = l.each;
-    lines::octets(&each);
+    lines::octets(rt, &each)
 }
 
-fn set_limit(call: &[u8]) {
+fn set_limit(rt: &impl Print, call: &[u8]) -> io::Result<()> {
     let mut each = [0u8; 13];
     octets::put(
         &mut each,
@@ -144,39 +144,39 @@ fn set_limit(call: &[u8]) {
         calls::number(call, 14),
         calls::number(call, 18),
     );
-    lines::number(after.refusal as u64);
-    limits(after.limits);
+    lines::number(rt, after.refusal as u64)?;
+    limits(rt, after.limits)
 }
 
-fn kind_total(call: &[u8]) {
+fn kind_total(rt: &impl Print, call: &[u8]) -> io::Result<()> {
     let mut each = [0u8; 10];
     octets::put(
         &mut each,
         area::part_of(call, area::Span { start: 1, len: 10 }),
     );
     let t = tacit::tacit_kind_total(Totals { each }, calls::number(call, 11));
-    lines::number(t.refusal as u64);
-    lines::number(t.total as u64);
+    lines::number(rt, t.refusal as u64)?;
+    lines::number(rt, t.total as u64)
 }
 
-fn load(lent: &[u8]) {
+fn load(rt: &impl Print, lent: &[u8]) -> io::Result<()> {
     let l = tacit::tacit_load(lent);
     let s = l.session;
-    lines::number(l.refusal as u64);
-    lines::number(s.state as u64);
-    lines::number(s.flags as u64);
-    lines::number(s.disabled as u64);
-    lines::number(s.enabled as u64);
-    lines::number(s.listed as u64);
-    lines::number(s.protects as u64);
-    lines::number(s.ours as u64);
-    lines::number(s.theirs as u64);
-    lines::number(s.hello as u64);
-    lines::number(s.next as u64);
+    lines::number(rt, l.refusal as u64)?;
+    lines::number(rt, s.state as u64)?;
+    lines::number(rt, s.flags as u64)?;
+    lines::number(rt, s.disabled as u64)?;
+    lines::number(rt, s.enabled as u64)?;
+    lines::number(rt, s.listed as u64)?;
+    lines::number(rt, s.protects as u64)?;
+    lines::number(rt, s.ours as u64)?;
+    lines::number(rt, s.theirs as u64)?;
+    lines::number(rt, s.hello as u64)?;
+    lines::number(rt, s.next as u64)
 }
 
 // The session comes by its fields.
-fn store(room: &mut [u8], call: &[u8]) {
+fn store(rt: &impl Print, room: &mut [u8], call: &[u8]) -> io::Result<()> {
     let session = Session {
         state: calls::octet(call, 1),
         flags: calls::octet(call, 2),
@@ -189,51 +189,57 @@ fn store(room: &mut [u8], call: &[u8]) {
         hello: calls::number(call, 12),
         next: calls::number(call, 16),
     };
-    lines::number(tacit::tacit_store(session, room) as u64);
-    lines::octets(room);
+    lines::number(rt, tacit::tacit_store(session, room) as u64)?;
+    lines::octets(rt, room)
 }
 
 // A call that lends a room.
-fn in_room(room: &mut [u8], lent: &mut [u8], which: u8, call: &[u8]) {
+fn in_room(
+    rt: &impl Print,
+    room: &mut [u8],
+    lent: &mut [u8],
+    which: u8,
+    call: &[u8],
+) -> io::Result<()> {
     match which {
-        4 => local_change(room, lent, call),
-        17 => store(room, call),
-        18 => wish(room, lent, call),
-        23 => back(room, lent),
-        _ => wish_sac(room, call),
+        4 => local_change(rt, room, lent, call),
+        17 => store(rt, room, call),
+        18 => wish(rt, room, lent, call),
+        23 => back(rt, room, lent),
+        _ => wish_sac(rt, room, call),
     }
 }
 
-fn with_room(lent: &mut [u8], which: u8, call: &[u8]) {
+fn with_room(rt: &impl Print, lent: &mut [u8], which: u8, call: &[u8]) -> io::Result<()> {
     let mut room = [0xEEu8; 40];
     let n = calls::room_length(call);
-    in_room(&mut room[..n], lent, which, call);
+    in_room(rt, &mut room[..n], lent, which, call)
 }
 
-fn by_number(lent: &mut [u8], which: u8, call: &[u8]) {
+fn by_number(rt: &impl Print, lent: &mut [u8], which: u8, call: &[u8]) -> io::Result<()> {
     match which {
-        1 => create(lent, call),
-        4 | 17 | 18 | 19 | 23 => with_room(lent, which, call),
-        8 => permitted(lent, call),
-        9 => permitted_kinds(lent),
-        10 => retry_interval(lent),
-        11 => lines::number(tacit::tacit_sound(lent) as u64),
-        12 => read(call),
-        13 => replace(lent, call),
-        14 => limits(tacit::tacit_no_limits()),
-        15 => set_limit(call),
-        16 => load(lent),
-        20 => wanted(call),
-        21 => kind_total(call),
-        22 => forward(lent, call),
-        _ => event(lent, which, call),
+        1 => create(rt, lent, call),
+        4 | 17 | 18 | 19 | 23 => with_room(rt, lent, which, call),
+        8 => permitted(rt, lent, call),
+        9 => permitted_kinds(rt, lent),
+        10 => retry_interval(rt, lent),
+        11 => lines::number(rt, tacit::tacit_sound(lent) as u64),
+        12 => read(rt, call),
+        13 => replace(rt, lent, call),
+        14 => limits(rt, tacit::tacit_no_limits()),
+        15 => set_limit(rt, call),
+        16 => load(rt, lent),
+        20 => wanted(rt, call),
+        21 => kind_total(rt, call),
+        22 => forward(rt, lent, call),
+        _ => event(rt, lent, which, call),
     }
 }
 
 // One call and its line.
-pub(crate) fn one(lent: &mut [u8], call: &[u8]) {
+pub(crate) fn one(rt: &impl Print, lent: &mut [u8], call: &[u8]) -> io::Result<()> {
     let which = calls::octet(call, 0);
-    io::print_hex(STDOUT_FILENO, which as u64, 1);
-    by_number(lent, which, call);
-    io::write_all(STDOUT_FILENO, b"\n");
+    print!(rt; "{which:x}")?;
+    by_number(rt, lent, which, call)?;
+    println!(rt)
 }

@@ -1,8 +1,8 @@
 -- Asked by kind: the members of a set stand for a kind exactly where the set meets the one of that kind. So one kind is one test, and the set of kinds is
 -- made kind by kind. From the layouts' agreement, by members. Assumes nothing.
-use mathlib.Core.Path.{◌≡◌, refl, sym, ap, ap₂, ◌∙◌}
+use mathlib.Core.Path.{◌≡◌, sym, ap, ap₂, ◌∙◌}
 use mathlib.Core.List.{List}
-use mathlib.Core.Bool.{Bool, true, false, ◌&&◌, ◌||◌, or-false, and-true, and-false}
+use mathlib.Core.Bool.{Bool, true, ◌&&◌, ◌||◌, or-false, and-true, and-false}
 use Prim.Native.Nat.{ℕ, ◌+◌, ◌-◌, ◌^◌, ◌<◌, ◌≤◌}
 use native.Mathlib.Nat.{le_refl}
 use native.Mathlib.Decide.{dec_lt}
@@ -11,7 +11,7 @@ use lib.ListN.{get_or, length, get_or-eq_default}
 use Rattle.choice.specs.Pick.{pick}
 use Rattle.choice.proofs.Branch.{by_test}
 use Rattle.choice.proofs.Tests.{same_test}
-use Rattle.sets.specs.Set.{has, union, with, meets, numbered, switched, chosen}
+use Rattle.sets.specs.Set.{has, union, meets, numbered, switched, chosen}
 use Rattle.sets.proofs.Members.{has_pick, has_union, has_above, has_lt}
 use Rattle.sets.proofs.Subsets.{same_members}
 use Rattle.sets.proofs.Switches.{is_numbered}

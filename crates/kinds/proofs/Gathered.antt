@@ -10,7 +10,7 @@ use lib.Pow.{pow_pos}
 use Rattle.choice.specs.Pick.{pick}
 use Rattle.choice.proofs.Branch.{by_test, taken}
 use Rattle.choice.proofs.Tests.{and_first, and_second, or_second, or_either}
-use Rattle.sets.specs.Set.{has, union, Within}
+use Rattle.sets.specs.Set.{has, Within}
 use Rattle.sets.proofs.Members.{has_pick, has_union, has_none}
 use Rattle.sets.proofs.Bounds.{union_lt}
 use Rattle.sets.proofs.Subsets.{within_self, within_none, within_union}

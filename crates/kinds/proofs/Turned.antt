@@ -14,7 +14,7 @@ use borrow.Author.Tests.{eqb-true, eqb-false}
 use Rattle.choice.specs.Pick.{pick}
 use Rattle.choice.proofs.Branch.{by_test}
 use Rattle.choice.proofs.Tests.{and_first, and_second, and_where}
-use Rattle.sets.specs.Set.{has, with, numbered}
+use Rattle.sets.specs.Set.{has, numbered}
 use Rattle.sets.proofs.Members.{has_pick, has_none, has_above, has_with_same, has_with_other}
 use Rattle.sets.proofs.Bounds.{with_lt}
 use Rattle.sets.proofs.Switches.{numbered_is}

@@ -1,3 +1,4 @@
+#![tactic(auto)]
 // Applications and kinds: the kinds that targeted applications open, those that SAC Apps control, and those that need a capability.
 ghost use Rattle.std.specs.Prelude.{◌≡◌, get_or};
 ghost use Rattle.sets.specs.Set.{has, holds, switched};
@@ -5,15 +6,15 @@ ghost use Rattle.kinds.specs.Kinds.{application_count, app_count, known_applicat
 ghost use Rattle.kinds.specs.ByKind.{openers, kinds_by};
 
 // A targeted application by its number, as TAC has it.
-#[derive(Drop)]
+#[derive(Clone, Copy)]
 pub struct TaId(pub u32);
 
 // A SAC application by its number. The same number means another thing than in a TaId.
-#[derive(Drop)]
+#[derive(Clone, Copy)]
 pub struct SacApp(pub u32);
 
 // A capability that kinds need, by its number: 1 P2MP, 2 MP2MP, 3 HSMP.
-#[derive(Drop)]
+#[derive(Clone, Copy)]
 pub struct Capability(pub u32);
 
 // How many kinds there are, and the set of all of them, kind k at bit k.
@@ -87,6 +88,7 @@ impl TaId {
     }
 
     // Whether the application is in the set; an unknown one is in none.
+    #[tactic(auto, unfolding(choice::specs::Pick::pick, crate::specs::Kinds::is_in))]
     pub fn is_in(self, applications: u16) -> bool
         ensures { result ≡ is_in applications self.0 }
     {
@@ -94,6 +96,7 @@ impl TaId {
     }
 
     // The set of applications with this one switched on or off; an unknown one changes nothing.
+    #[tactic(auto, using(sets::proofs::Switches::switched_lt), unfolding(choice::specs::Pick::pick))]
     pub fn switched(self, applications: u16, on: bool) -> u16
         ensures { result ≡ switched application_count applications self.0 on }
     {
@@ -118,6 +121,7 @@ impl SacApp {
     }
 
     // The set of Apps with this one switched on or off; an unknown one changes nothing.
+    #[tactic(auto, using(sets::proofs::Switches::switched_lt), unfolding(choice::specs::Pick::pick))]
     pub fn switched(self, apps: u8, on: bool) -> u8
         ensures { result ≡ switched app_count apps self.0 on }
     {
@@ -147,6 +151,7 @@ impl Capability {
     }
 
     // The set of capabilities with this one switched on or off.
+    #[tactic(auto, using(sets::proofs::Switches::switched_lt), unfolding(choice::specs::Pick::pick))]
     pub fn switched(self, capabilities: u8, on: bool) -> u8
         ensures { result ≡ switched capability_count capabilities self.0 on }
     {
@@ -166,6 +171,7 @@ fn at(table: [u16; KINDS], kind: u16) -> u16
 }
 
 // The kinds that these members stand for by a table: those whose set they meet.
+#[tactic(auto, unfolding(choice::specs::Pick::pick, sets::specs::Set::chosen, crate::specs::ByKind::kinds_by))]
 fn kinds_by(table: [u16; KINDS], members: u16) -> u16
     ensures { result ≡ kinds_by table members }
 {
@@ -178,6 +184,7 @@ fn kinds_by(table: [u16; KINDS], members: u16) -> u16
 }
 
 // The applications that open a kind, in a session with these protected kinds.
+#[tactic(auto, using(crate::proofs::Table::openers_at), unfolding(choice::specs::Pick::pick, crate::specs::ByKind::openers, sets::specs::Set::with))]
 fn openers(kind: u16, protects: u16) -> u16
     ensures { result ≡ openers protects kind }
 {
@@ -189,6 +196,7 @@ fn openers(kind: u16, protects: u16) -> u16
 }
 
 // Whether a set of applications opens this one kind.
+#[tactic(auto, using(crate::proofs::ByKind::opened_meets), unfolding(choice::specs::Pick::pick))]
 pub fn opens_kind(applications: u16, protects: u16, kind: u16) -> bool
     ensures { result ≡ has (opened protects applications) kind }
 {
@@ -196,6 +204,7 @@ pub fn opens_kind(applications: u16, protects: u16, kind: u16) -> bool
 }
 
 // The kinds that a set of applications opens.
+#[tactic(auto, using(crate::proofs::ByKind::opened_by_kind, sets::proofs::Members::union_none), unfolding(choice::specs::Pick::pick))]
 pub fn opened(applications: u16, protects: u16) -> u16
     ensures { result ≡ opened protects applications }
 {
@@ -207,6 +216,7 @@ pub fn opened(applications: u16, protects: u16) -> u16
 }
 
 // Whether a set of Apps disables this one kind.
+#[tactic(auto, using(crate::proofs::Table::controllers_at, crate::proofs::ByKind::disables_meets), unfolding(choice::specs::Pick::pick))]
 pub fn disables_kind(apps: u8, kind: u16) -> bool
     ensures { result ≡ has (disables apps) kind }
 {
@@ -214,6 +224,7 @@ pub fn disables_kind(apps: u8, kind: u16) -> bool
 }
 
 // The kinds that a set of Apps disables.
+#[tactic(auto, using(crate::proofs::ByKind::disables_by_kind), unfolding(choice::specs::Pick::pick))]
 pub fn disables(apps: u8) -> u16
     ensures { result ≡ disables apps }
 {

@@ -1,3 +1,4 @@
+#![tactic(auto)]
 // The element lists of a TAC and of a SAC, and what they make of a set. `opening` is an Initialization, else a Capability message.
 ghost use Rattle.std.specs.Prelude.{◌≡◌, ◌<◌};
 ghost use Rattle.lists.specs.Met.{tac_element};
@@ -17,6 +18,7 @@ fn element_count(value: &[u8]) -> usize
 }
 
 // The identifier of an element.
+#[tactic(auto, unfolding(choice::specs::Pick::pick, crate::specs::Tac::id_at))]
 fn id_at(value: &[u8], i: usize) -> u16
     requires { i < element_count value.now }
     ensures { result ≡ id_at value.now i }
@@ -25,6 +27,7 @@ fn id_at(value: &[u8], i: usize) -> u16
 }
 
 // Whether an element adds its application: in an opening each one does.
+#[tactic(auto, unfolding(choice::specs::Pick::pick, crate::specs::Tac::e_at))]
 fn adds(value: &[u8], opening: bool, i: usize) -> bool
     requires { i < element_count value.now }
     ensures { result ≡ adds value.now opening i }
@@ -36,6 +39,7 @@ fn adds(value: &[u8], opening: bool, i: usize) -> bool
 }
 
 // The set after one element of a TAC: one whose identifier was met before it counts for nothing.
+#[tactic(auto, unfolding(choice::specs::Pick::pick, crate::specs::Met::tac_element))]
 fn tac_element(met: u16, set: u16, id: u16, on: bool) -> u16
     ensures { result ≡ tac_element met set id on }
 {
@@ -46,6 +50,7 @@ fn tac_element(met: u16, set: u16, id: u16, on: bool) -> u16
 }
 
 // The set of applications after a TAC's elements. The known identifiers met are remembered: of equal ones the first decides.
+#[tactic(auto, unfolding(choice::specs::Pick::pick, crate::specs::Tac::after, crate::specs::Tac::tac_list))]
 pub fn tac_list(value: &[u8], opening: bool, listed: u16) -> u16
     ensures { result ≡ tac_list value.now opening listed }
 {
@@ -65,6 +70,7 @@ pub fn tac_list(value: &[u8], opening: bool, listed: u16) -> u16
 }
 
 // One element of a SAC.
+#[tactic(auto, unfolding(choice::specs::Pick::pick, crate::specs::Sac::sac_element))]
 fn sac_element(opening: bool, disabled: u8, x: u8) -> u8
     ensures { result ≡ sac_element opening disabled x }
 {
@@ -79,6 +85,7 @@ fn sac_element(opening: bool, disabled: u8, x: u8) -> u8
 }
 
 // The disabled Apps after a SAC's elements, in order.
+#[tactic(auto, unfolding(choice::specs::Pick::pick, crate::specs::Sac::sac_list, crate::specs::Sac::sac_after))]
 pub fn sac_list(value: &[u8], opening: bool, disabled: u8) -> u8
     ensures { result ≡ sac_list value.now opening disabled }
 {

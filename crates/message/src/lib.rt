@@ -1,3 +1,4 @@
+#![tactic(auto)]
 // The messages that events write, from their parts: a head with its number, then TLVs.
 ghost use Rattle.std.specs.Prelude.{◌≡◌, ◌+◌, ◌<◌, ◌≤◌, length};
 ghost use Rattle.octets.specs.Octets.{over};
@@ -8,7 +9,7 @@ ghost use Rattle.message.specs.Message.{message_head, one_element, one_app, capa
 pub mod sac;
 
 // What an event writes: nothing, or a message under its number.
-#[derive(Drop)]
+#[derive(Clone, Copy)]
 pub enum Message {
     NoMessage,
     // One application switched on or off.
@@ -123,6 +124,7 @@ fn write_wish(room: &mut [u8], number: u32, n: u32, disable: bool)
 }
 
 // Puts the message over the front of the room where octets were said to be written; else the room stays.
+#[tactic(auto, unfolding(choice::specs::Pick::pick, crate::specs::Message::room_with))]
 pub fn write(room: &mut [u8], written: u16, message: Message)
     ensures { room.new ≡ room_with written message room.old }
 {

@@ -8,6 +8,7 @@ ghost use Rattle.message.specs.Sac.{app_element, wish_element, wish_elements, wi
 use kinds::SacApp;
 
 // An element of a SAC: D and the App.
+#[tactic(auto, unfolding(choice::specs::Pick::pick))]
 pub(crate) fn app_element(n: u32, disable: bool) -> u8
     ensures { result ≡ app_element n disable }
 {
@@ -19,6 +20,7 @@ pub(crate) fn app_element(n: u32, disable: bool) -> u8
 }
 
 // How many elements place i of the wishes has: one where its App is wished disabled.
+#[tactic(auto, unfolding(choice::specs::Pick::pick))]
 fn element_count(wishes: u8, i: u32) -> usize
     requires { i < app_count }
     ensures { result ≡ length (wish_element wishes i) }
@@ -30,6 +32,7 @@ fn element_count(wishes: u8, i: u32) -> usize
 }
 
 // How many there are in all.
+#[tactic(auto, unfolding(choice::specs::Pick::pick, crate::specs::Sac::wish_elements))]
 fn elements_count(wishes: u8) -> usize
     ensures { result ≡ length (wish_elements wishes app_count) }
 {
@@ -54,6 +57,7 @@ fn put_element(room: &mut [u8], n: usize, wishes: u8, i: u32) -> usize
 }
 
 // Puts all of them behind the first `at` octets.
+#[tactic(auto, unfolding(choice::specs::Pick::pick, crate::specs::Sac::wish_elements))]
 fn put_elements(room: &mut [u8], at: usize, wishes: u8)
     requires { at + length (wish_elements wishes app_count) ≤ length room.old }
     ensures { room.new ≡ over_at at (wish_elements wishes app_count) room.old }
@@ -78,6 +82,7 @@ fn put_sac(room: &mut [u8], n: usize, wishes: u8)
 
 // The SAC for these wishes over the front of the room; without room for all of it nothing is written. How many octets it has: none where no App is
 // wished disabled.
+#[tactic(auto, unfolding(choice::specs::Pick::pick, sets::specs::Set::empty))]
 pub fn write_sac(room: &mut [u8], wishes: u8) -> usize
     ensures { (result ≡ length (sac_octets wishes)) × (room.new ≡ over (sac_octets wishes) room.old) }
 {

@@ -1,3 +1,4 @@
+#![tactic(auto)]
 // Octets put over the front of lent ones, the top bit of an octet, and the numbers that octets of a record hold.
 ghost use Rattle.std.specs.Prelude.{◌≡◌, ◌+◌, ◌<◌, ◌≤◌, length};
 ghost use Rattle.octets.specs.Octets.{le_at16, le_at32, top_bit, over, over_at};
@@ -27,6 +28,7 @@ pub fn put_at(room: &mut [u8], at: usize, written: &[u8])
 pub const TOP_BIT: u8 = 0x80;
 
 // An octet with its top bit alone, or with none.
+#[tactic(auto, unfolding(choice::specs::Pick::pick))]
 pub fn top_bit(on: bool) -> u8
     ensures { result ≡ top_bit on }
 {

@@ -30,7 +30,7 @@ pub theirs_only_open : TheirsOnlyOpen
 theirs_only_open s es h shut = (sound_means (run s es) (sound_over_runs s es h)).shut_theirs shut
 
 -- ---- one event of an Open session that stays Open: an Initialization is refused there, and a closed connection is not Open
-module _ (s : Session) (r : Sound s) (is_open : is_open s ≡ true) where
+module _ (s : Session) (r : Sound s) (opened : is_open s ≡ true) where
   abbrev says : Event → ℕ
   says e = pick (eqb (step s e).answer.refusal not_refused) (said_by s.theirs e) s.theirs
 
@@ -38,7 +38,7 @@ module _ (s : Session) (r : Sound s) (is_open : is_open s ≡ true) where
   hears e = pick (eqb (step s e).answer.refusal not_refused) (heard s.theirs e) s.theirs
 
   not_ready : is_ready s ≡ false
-  not_ready = ap (λ (n : ℕ). eqb n state_ready) (eqb-true s.state state_open is_open)
+  not_ready = ap (λ (n : ℕ). eqb n state_ready) (eqb-true s.state state_open opened)
 
   opening_refused : (area : List ℕ) (below_limit : ℕ) → (step s (Initialization area below_limit)).answer.refusal ≡ wrong_state
   unfolding on_initialization settled
@@ -47,7 +47,7 @@ module _ (s : Session) (r : Sound s) (is_open : is_open s ≡ true) where
 
   closed_shut : is_open (step s Closed).session ≡ false
   unfolding on_closed settled answered
-  closed_shut = ap (λ (z : After). is_open z.session) (ap (settled s) (taken _ _ (means_sound s r) ∙ taken _ _ is_open))
+  closed_shut = ap (λ (z : After). is_open z.session) (ap (settled s) (taken _ _ (means_sound s r) ∙ taken _ _ opened))
 
   as_said : (e : Event) → is_open (step s e).session ≡ true → hears e ≡ says e
   as_said (Initialization area below_limit) k =

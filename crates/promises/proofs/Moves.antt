@@ -55,19 +55,19 @@ unfolding permitted_kinds permission why_not retry_interval load record_after
 kind1_refused l h =
     record {
       event = event;
-      kinds = ap (λ (k : Kinds). k.refusal) (left _ _ not_sound);
-      kind = λ k. ap (λ (p : Permission). p.refusal) (left _ _ not_sound);
-      why = λ k. ap (λ (w : Reason). w.refusal) (left _ _ not_sound);
-      retry = ap (λ (w : Retry). w.refusal) (left _ _ not_sound);
-      unsound = not_sound;
-      loaded = left _ _ not_sound;
+      kinds = ap (λ (k : Kinds). k.refusal) (left _ _ unsound);
+      kind = λ k. ap (λ (p : Permission). p.refusal) (left _ _ unsound);
+      why = λ k. ap (λ (w : Reason). w.refusal) (left _ _ unsound);
+      retry = ap (λ (w : Retry). w.refusal) (left _ _ unsound);
+      unsound = unsound;
+      loaded = left _ _ unsound;
     }
   where
-    not_sound : sound (decoded l) ≡ false
-    not_sound = ap sound (one_kind.kind1 l h) ∙ fails_if (sound no_session) never_sound
+    unsound : sound (decoded l) ≡ false
+    unsound = ap sound (one_kind.kind1 l h) ∙ fails_if (sound no_session) never_sound
 
     event : (e : Event) (r : Answer) (l' : List ℕ) → Called e l r l' → (r.refusal ≡ not_sound) × (l' ≡ l)
     event e r l' c =
         let is = calls_are_events e l r l' c in
-        let no : (step (decoded l) e).answer.refusal ≡ not_sound = ap (λ (a : After). a.answer.refusal) (unsound_refused (decoded l) e not_sound) in
+        let no : (step (decoded l) e).answer.refusal ≡ not_sound = ap (λ (a : After). a.answer.refusal) (unsound_refused (decoded l) e unsound) in
         (ap (λ (a : Answer). a.refusal) is.answer ∙ no, is.octets ∙ left _ _ (ne_eqb _ _ (λ (z : (step (decoded l) e).answer.refusal ≡ not_refused). omega (arith, sym no ∙ z))))

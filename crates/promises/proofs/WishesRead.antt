@@ -49,10 +49,10 @@ use Rattle.promises.specs.Wishes.{answer_to, area_of_wish, WishReadAsMeant, SacW
 use Rattle.promises.proofs.Wishes.{after_sound}
 
 -- ---- the message of a wish
-area_of : (s : Session) (wishes n : ℕ) (disable : Bool) (room : List ℕ) → (answer_to s wishes n disable (length room)).written ≡ wish_length
+octets_of_wish : (s : Session) (wishes n : ℕ) (disable : Bool) (room : List ℕ) → (answer_to s wishes n disable (length room)).written ≡ wish_length
     → area_of_wish s wishes n disable room ≡ app_octets n disable
 unfolding room_after room_with over
-area_of s wishes n disable room w =
+octets_of_wish s wishes n disable room w =
     ap (λ (l : List ℕ). drop message_head_length (take wish_length l))
     (taken _ _ (ap (λ (x : ℕ). ltb 0 x) w) ∙ taken _ _ (le-leb wish_length (length room) (wish_wrote s wishes n disable (length room) w).1))
     ∙ ap (λ (l : List ℕ). drop message_head_length l) (take-append_seam (wish_of s.next n disable) (drop wish_length room))
@@ -90,7 +90,7 @@ module _ (t : Session) (is_sound : sound t ≡ true) (is_open : is_open t ≡ tr
 pub wish_read_as_meant : WishReadAsMeant
 wish_read_as_meant s wishes n disable room t w is_sound is_open =
     let known = (wish_about s wishes n disable (length room) (wish_wrote s wishes n disable (length room) w).0).known in
-    rw (area_of s wishes n disable room w)
+    rw (octets_of_wish s wishes n disable room w)
     (record {
       event = event_is t is_sound is_open n disable known;
       that = holds_same app_count t.disabled n disable known;

@@ -4,6 +4,7 @@ pub mod Condition3
 pub mod Capabilities
 pub mod Written
 pub mod Records
+pub mod Allowed
 pub mod Walked
 pub mod Wishes
 pub mod Calls

@@ -1,18 +1,19 @@
 -- The C calls for an event in a row, for the total of a kind and for the recount, over their contracts: the first is the row's event, with the totals handed in
 -- and handed back; what is promised of totals, and condition 3 of two rows, stand under them. Assumes nothing.
-use Rattle.std.specs.Prelude.{ℕ, ◌<◌, ◌≡◌, true, List, [], ◌∷◌}
+use Rattle.std.specs.Prelude.{ℕ, ◌<◌, ◌≡◌, true, List, [], ◌∷◌, refl}
 use Rattle.refusals.specs.Refusals.{not_refused}
 use Rattle.kinds.specs.Kinds.{kind_count}
 use Rattle.session.specs.declared.Session.{Session}
 use Rattle.session.specs.Session.{is_open}
 use Rattle.totals.specs.declared.RowAnswer.{RowAnswer}
-use Rattle.tacit.proofs.tacit_kind_total.Reads as kind-total
+use Rattle.tacit.specs.contracts.tacit_kind_total as kind-total
 use Rattle.row.specs.Row.{session_at, walk, all_sound, is_row}
-use Rattle.promises.specs.Walked.{RowEventCall, Recount}
 use Rattle.promises.specs.Condition3.{NeverLess}
 use Rattle.promises.specs.Rows.{TotalledRow, RowEvent, row_step, row_then, room_then, row_run, AllFresh}
 use Rattle.promises.specs.RowTotals.{starts_with}
 use Rattle.promises.specs.RowCondition3.{RowPair}
+use Rattle.promises.specs.Allowed.{Allows}
+use Rattle.promises.specs.Walked.{RowEventCall, Recount}
 
 -- by its contract `tacit_row_event`, handed a row and totals, may answer r and leave the row row' and the room room'
 pub data RowCalled : RowEvent → TotalledRow → RowAnswer → List Session → List ℕ → Type 0 where
@@ -46,7 +47,7 @@ pub record RowCallsTotal : Type 0 where
   -- what is asked of the totals that the last call handed back is what a walk over the row would find
   pub tacit_kind_total :
       (es : List RowEvent) (row : List Session) (last : TotalledRow) → AllFresh row → RowCalledRun es (starts_with row) last
-      → (a r s : _) → kind-total.Post tt a r s → a.0 ≡ last.totals → a.1.0 < kind_count
+      → (a r s : _) → Allows kind-total.ended (λ w. kind-total.clauses) (λ w. refl) tt a r s → a.0 ≡ last.totals → a.1.0 < kind_count
       → r ≡ record { refusal = not_refused; total = walk last.sessions a.1.0 }
   -- and a recount of the row hands back these totals
   pub tacit_recount :

@@ -1,3 +1,4 @@
+#![tactic(auto)]
 // What is promised of more than one call. No code of its own.
 ghost use Rattle.promises.specs.Promises.{Promises};
 

@@ -1,3 +1,4 @@
+#![tactic(auto)]
 // The stored record of kind 2, and the session that it holds; the kind before it is in moves.rt.
 ghost use Rattle.std.specs.Prelude.{◌≡◌, ◌≤◌, length};
 ghost use Rattle.record.specs.Carried.{Carried};
@@ -10,7 +11,7 @@ pub mod moves;
 
 // A session read from a record.
 #[repr(C)]
-#[derive(Drop)]
+#[derive(Clone, Copy)]
 pub struct Loaded {
     pub refusal: u8,
     pub session: Session,
@@ -18,7 +19,7 @@ pub struct Loaded {
 
 // What a move forward answers.
 #[repr(C)]
-#[derive(Drop)]
+#[derive(Clone, Copy)]
 pub struct Moved {
     pub refusal: u8,
     pub lost: u16,
@@ -69,6 +70,7 @@ pub(crate) fn encoded(s: Session) -> [u8; LENGTH]
 }
 
 // Stores the session in a record of exactly 24 octets; any other stays as it was.
+#[tactic(auto, unfolding(choice::specs::Pick::pick, crate::specs::Record::stored_in, octets::specs::Octets::over))]
 pub fn stored_in(s: Session, lent: &mut [u8])
     ensures { lent.new ≡ stored_in s lent.old }
 {
@@ -80,6 +82,7 @@ pub fn stored_in(s: Session, lent: &mut [u8])
 }
 
 // Length, kind and the zero octet as they must be. The two fields are read as one number, the length in its low half.
+#[tactic(auto, unfolding(choice::specs::Pick::pick, crate::specs::Record::headed))]
 pub(crate) fn headed(lent: &[u8], long: u16, kind: u16) -> bool
     requires { kind1_length ≤ length lent.now }
     ensures { result ≡ headed long kind lent.now }
@@ -113,6 +116,7 @@ pub(crate) fn fields(lent: &[u8], ours: u8, theirs: u8) -> Session
 }
 
 // The session of a record. One with another length, kind or zero octet gives a session that is not sound, so every event refuses it with 10.
+#[tactic(auto, unfolding(choice::specs::Pick::pick, crate::specs::Record::decoded))]
 pub fn decoded(lent: &[u8]) -> Session
     ensures { result ≡ decoded lent.now }
 {
@@ -126,6 +130,7 @@ pub fn decoded(lent: &[u8]) -> Session
 }
 
 // Stores the session after an event, unless it was refused, and answers.
+#[tactic(auto, unfolding(choice::specs::Pick::pick, crate::specs::Carried::record_after))]
 pub fn carry(lent: &mut [u8], after: After) -> Answer
     ensures { Carried after lent.old result lent.new }
 {
@@ -137,6 +142,7 @@ pub fn carry(lent: &mut [u8], after: After) -> Answer
 }
 
 // The session of a sound record; of any other, 10 and no session.
+#[tactic(auto, unfolding(choice::specs::Pick::pick, crate::specs::Loaded::load))]
 pub fn load(lent: &[u8]) -> Loaded
     ensures { result ≡ load lent.now }
 {
@@ -154,6 +160,7 @@ pub fn load(lent: &[u8]) -> Loaded
 }
 
 // Stores a sound session in a record of 24 octets, or answers 10.
+#[tactic(auto, unfolding(choice::specs::Pick::pick, crate::specs::Loaded::store_refusal, crate::specs::Loaded::store_octets, crate::specs::Record::stored_in))]
 pub fn store(s: Session, lent: &mut [u8]) -> u8
     ensures { (result ≡ store_refusal s lent.old) × (lent.new ≡ store_octets s lent.old) }
 {

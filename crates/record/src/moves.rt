@@ -14,6 +14,7 @@ const KIND1_LENGTH_FIELD: u16 = 20;
 const KIND1_FIELD: u16 = 1;
 
 // The session of a record of kind 1, where neither end holds a capability; of any other octets one that is not sound.
+#[tactic(auto, unfolding(choice::specs::Pick::pick, crate::specs::Record::decoded_kind1))]
 fn decoded_kind1(lent: &[u8]) -> Session
     ensures { result ≡ decoded_kind1 lent.now }
 {
@@ -27,6 +28,7 @@ fn decoded_kind1(lent: &[u8]) -> Session
 }
 
 // Puts a session into a room of 22 octets: its record, with the head of kind 1 and without the last two octets.
+#[tactic(auto, unfolding(choice::specs::Pick::pick, octets::specs::Octets::over))]
 fn put_kind1(s: Session, room: &mut [u8])
     requires { length room.old ≡ kind1_length }
     ensures { room.new ≡ encoded_kind1 s }
@@ -38,6 +40,7 @@ fn put_kind1(s: Session, room: &mut [u8])
 }
 
 // The kinds that document 01's rule permits and capabilities take away.
+#[tactic(auto, unfolding(choice::specs::Pick::pick, crate::specs::Moves::loses_by_capabilities))]
 fn loses_by_capabilities(s: Session) -> u16
     ensures { result ≡ loses_by_capabilities s }
 {
@@ -46,6 +49,7 @@ fn loses_by_capabilities(s: Session) -> u16
 }
 
 // Neither end holds a capability.
+#[tactic(auto, unfolding(choice::specs::Pick::pick, sets::specs::Set::empty))]
 fn holds_none(s: Session) -> bool
     ensures { result ≡ holds_none s }
 {
@@ -53,6 +57,7 @@ fn holds_none(s: Session) -> bool
 }
 
 // Moves a record of kind 1 into a room of 24 octets, or answers 10.
+#[tactic(auto, unfolding(choice::specs::Pick::pick, crate::specs::Moves::forward, crate::specs::Moves::forward_room, crate::specs::Loaded::store_refusal, crate::specs::Loaded::store_octets, crate::specs::Record::stored_in))]
 pub fn forward(kind1: &[u8], kind2: &mut [u8]) -> Moved
     ensures { (result ≡ forward kind1.now kind2.old) × (kind2.new ≡ forward_room kind1.now kind2.old) }
 {
@@ -72,6 +77,7 @@ pub fn forward(kind1: &[u8], kind2: &mut [u8]) -> Moved
 }
 
 // Moves a record into a room of 22 octets, or answers 10, or 13 where it has a capability to lose.
+#[tactic(auto, unfolding(choice::specs::Pick::pick, crate::specs::Moves::back_refusal, crate::specs::Moves::back_room))]
 pub fn back(kind2: &[u8], kind1: &mut [u8]) -> u8
     ensures { (result ≡ back_refusal kind2.now kind1.old) × (kind1.new ≡ back_room kind2.now kind1.old) }
 {

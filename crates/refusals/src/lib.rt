@@ -1,3 +1,4 @@
+#![tactic(auto)]
 // Document 01's refusal numbers by their names; specs/Refusals.antt says when each is given.
 pub const NOT_REFUSED: u8 = 0;
 

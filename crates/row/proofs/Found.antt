@@ -5,7 +5,8 @@ use Prim.Native.Nat.{ℕ, zero, suc, ◌-◌, ◌<◌}
 use mathlib.Core.Path.{◌≡◌, refl, ap, ◌∙◌}
 use mathlib.Core.Bool.{Bool, true}
 use mathlib.Core.List.{List, [], ◌∷◌}
-use lib.ListN.{length, get_or}
+use lib.ListN.{length, get_or, set}
+use Rattle.std.proofs.lemmas.List.{get_or_default}
 use lib.Dec.{eqb, ltb}
 use native.Mathlib.Omega.{arith}
 use borrow.Author.Tests.{ltb-true}
@@ -19,15 +20,17 @@ use Rattle.message.specs.Message.{room_with}
 use Rattle.session.specs.declared.Session.{Session}
 use Rattle.session.specs.declared.After.{After}
 use Rattle.session.specs.Session.{sound}
+use Rattle.session.specs.With.{no_session}
 use Rattle.session.specs.Events.{Initialization, step}
 use Rattle.totals.specs.declared.Totals.{Totals}
+use Rattle.totals.specs.declared.Totalled.{Totalled}
 use Rattle.totals.specs.Totals.{totalled}
 use Rattle.row.specs.declared.EventNumbers.{EventNumbers}
 use Rattle.row.specs.declared.Limits.{Limits}
 use Rattle.row.specs.declared.Counted.{Counted}
 use Rattle.row.specs.declared.Tally.{Tally}
 use Rattle.row.specs.Events.{initialization_number, event_of, message_in}
-use Rattle.row.specs.Row.{session_at, all_sound, is_row, in_row, event_with, room_after, not_counted, count_of, not_totalled, recount}
+use Rattle.row.specs.Row.{session_at, all_sound, is_row, in_row, event_with, row_after, room_after, not_counted, count_of, not_totalled, recount}
 use Rattle.row.specs.Counting.{applications_counted, kinds_counted, counted_for, noted, empty_tally, tallied, is_below, below_limit_by, decided_by, totalled_by, room_by, count_by, leading_counts, recount_by}
 use Rattle.row.specs.Survey.{leading, surveyed}
 use Rattle.row.proofs.Tallied.{tallied_sound, event_in_row, room_in_row, count_in_row, recount_in_row}
@@ -98,3 +101,20 @@ pub recount_found : (row : List Session) → is_row row ≡ true → recount_by 
 unfolding recount_by
 recount_found row there =
     same_asked (noted kinds_counted) row (λ cs. record { refusal = not_refused; totals = record { each = leading_counts cs kind_count } }) (not_totalled not_sound) ∙ recount_in_row row there
+
+-- ---- the session at a place of the row, read with any other behind its end
+session_told : (row : List Session) (at : ℕ) (d : Session) → in_row row at ≡ true → get_or row at d ≡ session_at row at
+session_told row at d inside = get_or_default row at d no_session (ltb-true at (length row) (and_first (ltb at (length row)) _ inside))
+
+pub sound_told : (row : List Session) (at : ℕ) (d : Session) (counting : Bool) (of : Session → ℕ) (t : Tally) → in_row row at ≡ true → t ≡ surveyed counting of row → t.sound ≡ true → sound (get_or row at d) ≡ true
+sound_told row at d counting of t inside found all = rw (session_told row at d inside) (sound_found row at counting of inside (rw found at all))
+
+-- what a call makes of the row, by what the pass over it found
+pub event_told : (row : List Session) (at : ℕ) (d : Session) (e : EventNumbers) (l : Limits) (t : Totals) (area room room' : List ℕ) (counted : Counted) (found : Tally) (after : Totalled)
+    → in_row row at ≡ true → counted ≡ counted_for e → found ≡ surveyed counted.counting (noted counted) row
+    → (after ≡ totalled_by (get_or row at d) found e l t area (length room)) × (room' ≡ room_by (get_or row at d) found e l t area room)
+    → (after.answer ≡ (event_with row at e l t area (length room)).answer) × (set row at after.session ≡ row_after row at e l t area (length room)) × (room' ≡ room_after row at e l t area room)
+event_told row at d e l t area room room' counted found after inside asked seen said =
+    let q = rw (seen, asked, session_told row at d inside) at said in
+    let same = q.0 ∙ event_found row at e l area t (length room) inside in
+    (ap (λ (x : Totalled). x.answer) same, ap (λ (x : Totalled). set row at x.session) same, q.1 ∙ room_found row at e l area t room inside)

@@ -1,5 +1,3 @@
-pub mod Locals
-pub mod Walk
 pub mod EventCases
 pub mod HowMany
 pub mod Walked

@@ -2,9 +2,11 @@
 -- that every count has a digit in each plane it needs. By induction over the row, from the law of planes. Assumes empty_tally.
 use Prim.Native.Nat.{ℕ, suc, ◌+◌, ◌^◌, ◌<◌, ◌≤◌}
 use mathlib.Core.Path.{◌≡◌, refl, sym, ap, ◌∙◌}
-use mathlib.Core.Bool.{Bool, true, false, ◌&&◌}
+use mathlib.Core.Bool.{Bool, true, false, ◌&&◌, true≢false}
 use mathlib.Core.List.{List, [], ◌∷◌}
-use lib.ListN.{length, get_or}
+use lib.ListN.{length, get_or, drop, drop_of_length-le}
+use lib.Dec.{ltb}
+use borrow.Author.Tests.{ltb-false}
 use lib.Seq.{ext_get_or}
 use native.Mathlib.Nat.{le_refl, zero-add}
 use native.Mathlib.Omega.{arith}
@@ -73,6 +75,16 @@ pub onward_over : (counting : Bool) (of : Session → ℕ) (v : Survey) (row : L
 unfolding onward
 onward_over counting of v [] over = refl
 onward_over counting of v (s ∷ row) over = left _ _ over
+
+-- at place k: past the row, or behind one that was not sound
+pub onward_end : (counting : Bool) (of : Session → ℕ) (v : Survey) (row : List Session) (k : ℕ) → ltb k (length row) && v.sound ≡ false → onward counting of v (drop k row) ≡ tally_by counting v
+unfolding onward
+onward_end counting of v row k = go (ltb k (length row)) v.sound refl refl
+  where
+    go : (a b : Bool) → ltb k (length row) ≡ a → v.sound ≡ b → a && b ≡ false → onward counting of v (drop k row) ≡ tally_by counting v
+    go true true e f h = absurd (true≢false h)
+    go true false e f h = onward_over counting of v (drop k row) f
+    go false b e f h = ap (onward counting of v) (drop_of_length-le row {i = k} (ltb-false k (length row) e))
 
 module _ (counting : Bool) (of : Session → ℕ) (planes : List ℕ) (row : List Session) where
   abbrev found : Tally

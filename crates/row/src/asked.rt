@@ -28,6 +28,7 @@ impl Counted {
     }
 
     // The set of a session that is counted.
+    #[tactic(auto, unfolding(choice::specs::Pick::pick, crate::specs::Counting::noted))]
     pub(crate) fn noted(self, s: Session) -> u16
         requires { sound s ≡ true }
         ensures { result ≡ noted self s }
@@ -41,6 +42,7 @@ impl Counted {
 
 impl EventNumbers {
     // Only an Initialization asks for counts.
+    #[tactic(auto, unfolding(choice::specs::Pick::pick, crate::specs::Counting::counted_for))]
     pub fn counted(self) -> Counted
         ensures { result ≡ counted_for self }
     {

@@ -10,6 +10,7 @@ use kinds::TaId;
 use totals::Totals;
 
 // The counts of the ten kinds.
+#[tactic(auto, unfolding(choice::specs::Pick::pick, crate::specs::Counting::leading_counts))]
 fn leading(counts: [u8; APPLICATIONS]) -> [u8; totals::KINDS]
     ensures { result ≡ leading_counts counts kind_count }
 {
@@ -33,6 +34,7 @@ impl Tally {
     }
 
     // What a survey comes to: counts only where it counted.
+    #[tactic(auto, unfolding(choice::specs::Pick::pick, crate::specs::Survey::tally_by))]
     pub(crate) fn tally(survey: Survey, counted: Counted) -> Tally
         ensures { result ≡ tally_by counted.counting survey }
     {
@@ -48,6 +50,7 @@ impl Tally {
     }
 
     // The applications whose count is below its limit.
+    #[tactic(auto, unfolding(choice::specs::Pick::pick, sets::specs::Set::chosen, crate::specs::Counting::below_limit_by))]
     pub(crate) fn below_limit_by(self, limits: Limits) -> u16
         ensures { result ≡ below_limit_by self limits }
     {
@@ -63,6 +66,7 @@ impl Tally {
     }
 
     // How many sessions of the row use an application.
+    #[tactic(auto, using(sets::proofs::Switches::numbered_is), unfolding(choice::specs::Pick::pick, crate::specs::Counting::count_by))]
     pub fn count_by(self, ta_id: u32) -> Count
         ensures { result ≡ count_by self ta_id }
     {
@@ -87,6 +91,7 @@ impl Tally {
     }
 
     // How many sessions of the row permit each kind, where kinds were counted.
+    #[tactic(auto, unfolding(choice::specs::Pick::pick, crate::specs::Counting::recount_by))]
     pub fn recount_by(self) -> RowTotals
         ensures { result ≡ recount_by self }
     {

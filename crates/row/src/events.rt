@@ -24,6 +24,7 @@ impl EventNumbers {
     const CLOSED: u32 = 5;
 
     // What the event makes of a sound session, told how many octets of room there are; only an Initialization asks which applications are below their limit.
+    #[tactic(auto, unfolding(choice::specs::Pick::pick, crate::specs::Events::event_of))]
     fn apply(self, s: Session, tally: Tally, limits: Limits, area: &[u8], room: usize) -> After
         requires { sound s ≡ true }
         ensures { result ≡ step s (event_of self (below_limit_by tally limits) area.now room) }
@@ -50,6 +51,7 @@ impl EventNumbers {
     }
 
     // The message that it may write: only a local change writes.
+    #[tactic(auto, unfolding(choice::specs::Pick::pick, crate::specs::Events::message_in))]
     pub(crate) fn message_in(self, s: Session) -> Message
         ensures { result ≡ message_in self s }
     {
@@ -64,6 +66,7 @@ impl EventNumbers {
     }
 
     // The event of one session of the row, by what the pass over all of them found.
+    #[tactic(auto, unfolding(choice::specs::Pick::pick, crate::specs::Counting::decided_by))]
     pub(crate) fn decided_by(
         self,
         s: Session,

@@ -1,3 +1,4 @@
+#![tactic(auto)]
 // A row of sessions: limits on how many use an application, totals of how many permit a kind, and an event of one session among the others. All of it goes by
 // value but for `tally_of`, which is lent the row, as the C calls are.
 ghost use Rattle.std.specs.Prelude.{◌≡◌, true, ◌≤◌, length};
@@ -27,14 +28,14 @@ pub const MOST_SESSIONS: usize = 64;
 
 // Limits by application: TA-Id n at place n - 1.
 #[repr(C)]
-#[derive(Drop)]
+#[derive(Clone, Copy)]
 pub struct Limits {
     pub each: [u8; APPLICATIONS],
 }
 
 // The limits with one of them set, or why not.
 #[repr(C)]
-#[derive(Drop)]
+#[derive(Clone, Copy)]
 pub struct Limited {
     pub refusal: u8,
     pub limits: Limits,
@@ -42,7 +43,7 @@ pub struct Limited {
 
 // How many sessions use an application.
 #[repr(C)]
-#[derive(Drop)]
+#[derive(Clone, Copy)]
 pub struct Count {
     pub refusal: u8,
     pub count: u8,
@@ -50,7 +51,7 @@ pub struct Count {
 
 // The totals of a row, counted anew, or why not.
 #[repr(C)]
-#[derive(Drop)]
+#[derive(Clone, Copy)]
 pub struct RowTotals {
     pub refusal: u8,
     pub totals: Totals,
@@ -58,7 +59,7 @@ pub struct RowTotals {
 
 // An event as numbers: which of the six, and what a local change and a Hello bring.
 #[repr(C)]
-#[derive(Drop)]
+#[derive(Clone, Copy)]
 pub struct EventNumbers {
     pub which: u32,
     pub ta_id: u32,
@@ -67,27 +68,28 @@ pub struct EventNumbers {
 }
 
 // What a pass over a row counts: nothing, the applications that sessions use, or the kinds that they permit.
-#[derive(Drop)]
+#[derive(Clone, Copy)]
 pub struct Counted {
     pub(crate) counting: bool,
     pub(crate) kinds: bool,
 }
 
 // What one pass over a row finds: whether all are sound, and how many use each application, or permit each kind.
-#[derive(Drop)]
+#[derive(Clone, Copy)]
 pub struct Tally {
     pub sound: bool,
     pub counts: [u8; APPLICATIONS],
 }
 
 // What the pass keeps while it goes: whether all so far are sound, and the counts in planes.
-#[derive(Drop)]
+#[derive(Clone, Copy)]
 pub(crate) struct Survey {
     pub(crate) sound: bool,
     pub(crate) planes: [u16; PLANES],
 }
 
 // The event of one session of the row, decided by what the pass over all of them found and then by the totals, and what it writes.
+#[tactic(auto, unfolding(choice::specs::Pick::pick, crate::specs::Counting::room_by))]
 pub fn event_in(
     s: Session,
     tally: Tally,
@@ -133,6 +135,7 @@ pub fn untotalled() -> RowTotals
 }
 
 // The pass over the row, which is the only loop over one. It ends at the first session that is not sound.
+#[tactic(auto, using(crate::proofs::Surveyed::onward_surveyed, crate::proofs::Surveyed::onward_end), unfolding(choice::specs::Pick::pick, crate::proofs::Surveyed::onward))]
 pub fn tally_of(row: &[Session], counted: Counted) -> Tally
     requires { length row.now ≤ most_sessions }
     ensures { result ≡ surveyed counted.counting (noted counted) row.now }

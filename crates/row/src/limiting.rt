@@ -21,6 +21,7 @@ impl Limits {
     }
 
     // The limit of one application set.
+    #[tactic(auto, using(sets::proofs::Switches::numbered_is), unfolding(choice::specs::Pick::pick, crate::specs::Limiting::limited))]
     pub fn limited(mut self, app: TaId, limit: u32) -> Limited
         ensures { result ≡ limited self app.0 limit }
     {
@@ -47,6 +48,7 @@ impl Limits {
 }
 
 // A limit over 64 acts as 64.
+#[tactic(auto, unfolding(choice::specs::Pick::pick, crate::specs::Limiting::capped))]
 pub(crate) fn capped(limit: u8) -> u8
     ensures { result ≡ capped limit }
 {

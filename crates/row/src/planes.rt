@@ -12,6 +12,7 @@ use session::Session;
 pub(crate) const PLANES: usize = 7;
 
 // What is in one of the two, and not in both.
+#[tactic(auto, unfolding(choice::specs::Pick::pick, crate::specs::Survey::unlike))]
 fn unlike(a: u16, b: u16) -> u16
     ensures { result ≡ unlike a b }
 {
@@ -38,6 +39,7 @@ fn added(planes: [u16; PLANES], members: u16) -> [u16; PLANES]
 }
 
 // A number with one binary digit more, at its end.
+#[tactic(auto, unfolding(choice::specs::Pick::pick, crate::specs::Survey::digit))]
 fn digit(n: u8, on: bool) -> u8
     requires { n < 64 }
     ensures { result ≡ digit n on }
@@ -61,6 +63,7 @@ fn weighed(planes: [u16; PLANES], k: u16) -> u8
 }
 
 // The numbers at all places.
+#[tactic(auto, unfolding(choice::specs::Pick::pick, crate::specs::Survey::weighed_each))]
 pub(crate) fn weighed_each(planes: [u16; PLANES]) -> [u8; APPLICATIONS]
     ensures { result ≡ weighed_each planes application_count }
 {
@@ -84,6 +87,7 @@ impl Survey {
     }
 
     // With one more session.
+    #[tactic(auto, unfolding(choice::specs::Pick::pick, crate::specs::Survey::surveyed_with))]
     pub(crate) fn with(self, s: Session, counted: Counted) -> Survey
         ensures { result ≡ surveyed_with counted.counting (noted counted) self s }
     {

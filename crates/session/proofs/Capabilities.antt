@@ -8,7 +8,7 @@ use Rattle.kinds.specs.Kinds.{barred}
 use Rattle.kinds.proofs.Capable.{barred_within, barred_none}
 use Rattle.area.specs.declared.Reading.{Reading}
 use Rattle.session.specs.declared.Session.{Session}
-use Rattle.session.specs.Session.{held, permitted_by_base, permitted}
+use Rattle.session.specs.Session.{held, permitted_by_base}
 use Rattle.session.specs.With.{with_ours, with_theirs}
 use Rattle.session.specs.Capabilities.{theirs_after, AllHeldIsBase, HoldingMore}
 use Rattle.session.proofs.PermittedMeans.{permitted_is}

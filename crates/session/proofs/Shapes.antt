@@ -71,8 +71,8 @@ changed_permits s r n on unforced =
 
 -- nor is it in force in Open where TAC is not used
 pub unused_unforced : (s : Session) → Sound s → (is_open s && uses_tac s) ≡ false → is_open s ≡ true → in_force s ≡ false
-unused_unforced s r unused is_open = go (in_force s) refl
+unused_unforced s r unused o = go (in_force s) refl
   where
     go : (f : Bool) → in_force s ≡ f → f ≡ false
     go false e = refl
-    go true e = never (and_both (is_open s) (uses_tac s) is_open (r.force_uses e)) unused
+    go true e = never (and_both (is_open s) (uses_tac s) o (r.force_uses e)) unused

@@ -406,9 +406,9 @@ module _ (s : Session) (r : Sound s) (n : ℕ) (on : Bool) (room : ℕ) (known :
   unfolding held_to_ready
   writing_facts =
       writing_along (λ c _. Facts s (LocalChange n on room) c) s s.enabled s.next (changed s n on) (changed s n on) room (λ _ l. l)
-      (λ o q. let is_open = and_first (is_open s) _ o in (
-        record { makes = changes; found = record { told = or_second (is_ready s) (is_open s) is_open; leaves = changed_mismatched s n on } },
-        record { is_open = is_open; long = refl; enough = q },
+      (λ o q. let opened_now = and_first (is_open s) _ o in (
+        record { makes = changes; found = record { told = or_second (is_ready s) (is_open s) opened_now; leaves = changed_mismatched s n on } },
+        record { is_open = opened_now; long = refl; enough = q },
       ))
       (λ o. record {
         makes = changes;

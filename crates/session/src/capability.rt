@@ -11,6 +11,7 @@ use area::Reading;
 impl Session {
     // After a TAC: S says whether negotiation is in force. S = 0 empties the peer's list; else it is changed, from the empty one where negotiation
     // was not in force.
+    #[tactic(auto, unfolding(choice::specs::Pick::pick, crate::specs::Events::flags_after, crate::specs::Events::list_after, crate::specs::Creation::raised))]
     fn after_tac(mut self, value: &[u8]) -> Session
         ensures { result ≡ with_listed (with_flags self (flags_after self value.now)) (list_after self value.now) }
     {
@@ -30,6 +31,7 @@ impl Session {
     }
 
     // The peer's capabilities: of those present the ones with S = 1 are held, and the others withdrawn.
+    #[tactic(auto, unfolding(choice::specs::Pick::pick, crate::specs::Capabilities::theirs_after, crate::specs::Creation::raised))]
     fn theirs_after(self, found: Reading) -> u8
         ensures { result ≡ theirs_after self.theirs found }
     {
@@ -38,6 +40,7 @@ impl Session {
     }
 
     // With what the area says, before any mismatch is looked for.
+    #[tactic(auto, unfolding(choice::specs::Pick::pick, crate::specs::Events::after_capability, crate::specs::Events::flags_after, crate::specs::Events::list_after))]
     fn after_capability(mut self, area: &[u8], found: Reading) -> Session
         requires { Inside (length area.now) found }
         ensures { result ≡ after_capability self area.now found }
@@ -54,6 +57,7 @@ impl Session {
     }
 
     // Capability message received (Open only).
+    #[tactic(auto, unfolding(choice::specs::Pick::pick, crate::specs::Decisions::settled, crate::specs::Events::on_capability))]
     pub fn capability(self, area: &[u8]) -> After
         ensures { result ≡ step self (Capability area.now) }
     {

@@ -7,6 +7,7 @@ use crate::{After, Session};
 
 impl Session {
     // Connection closed (Open only), of a sound session: Ready.
+    #[tactic(auto, using(crate::proofs::Shapes::ready_permits), unfolding(choice::specs::Pick::pick, crate::specs::Decisions::settled, crate::specs::Events::on_closed))]
     pub fn closed_when_sound(self) -> After
         requires { sound self ≡ true }
         ensures { result ≡ step self Closed }
@@ -18,6 +19,7 @@ impl Session {
     }
 
     // Connection closed.
+    #[tactic(auto, unfolding(choice::specs::Pick::pick, crate::specs::Decisions::settled, crate::specs::Events::on_closed))]
     pub fn closed(self) -> After
         ensures { result ≡ step self Closed }
     {

@@ -24,6 +24,7 @@ impl Session {
     }
 
     // State Ready and no Hello recorded; refused with 6 for a set with bits beyond its limits.
+    #[tactic(auto, unfolding(choice::specs::Pick::pick, crate::specs::Creation::created, sets::specs::Set::below))]
     pub fn new(settings: Settings) -> Created
         ensures { result ≡ created settings }
     {

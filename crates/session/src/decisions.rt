@@ -47,6 +47,7 @@ impl Session {
     }
 
     // To a session that permits what this one does: nothing is lost or gained.
+    #[tactic(auto, using(crate::proofs::Shapes::unmoved), unfolding(choice::specs::Pick::pick))]
     pub(crate) fn unmoved(self, after: Session, outcome: u8, written: u16) -> After
         requires { permitted after ≡ permitted self }
         ensures { result ≡ answered self after outcome written }
@@ -64,6 +65,7 @@ impl Session {
     }
 
     // To a session that permits nothing: all that was permitted is lost.
+    #[tactic(auto, using(crate::proofs::Shapes::only_lost), unfolding(choice::specs::Pick::pick))]
     pub(crate) fn only_lost(self, after: Session, outcome: u8) -> After
         requires { permitted after ≡ 0 }
         ensures { result ≡ answered self after outcome 0 }
@@ -81,6 +83,7 @@ impl Session {
     }
 
     // From a session that permits nothing: all that is permitted is gained.
+    #[tactic(auto, using(crate::proofs::Shapes::only_gained), unfolding(choice::specs::Pick::pick))]
     pub(crate) fn only_gained(self, after: Session) -> After
         requires { permitted self ≡ 0 }
         ensures { result ≡ answered self after outcome_done 0 }
@@ -98,6 +101,7 @@ impl Session {
     }
 
     // From this session to the one after the event, whatever they permit: told what each does. Whoever asks computes that itself, so that it is put in place.
+    #[tactic(auto, unfolding(choice::specs::Pick::pick, crate::specs::Decisions::answered))]
     fn moved(self, had: u16, after: Session, has: u16, written: u16) -> After
         requires { (had ≡ permitted self) × (has ≡ permitted after) }
         ensures { result ≡ answered self after outcome_done written }
@@ -115,6 +119,7 @@ impl Session {
     }
 
     // To another session, with nothing asked of it.
+    #[tactic(auto, unfolding(choice::specs::Pick::pick, crate::specs::Decisions::settled))]
     pub(crate) fn done(self, after: Session) -> After
         ensures { result ≡ settled self (Done after) }
     {
@@ -124,6 +129,7 @@ impl Session {
     }
 
     // To what a mismatch leaves of a session.
+    #[tactic(auto, using(crate::proofs::Shapes::mismatched_permits), unfolding(choice::specs::Pick::pick, crate::specs::Decisions::settled))]
     pub(crate) fn as_mismatch(self, after: Session) -> After
         ensures { result ≡ settled self (AsMismatch after) }
     {
@@ -131,6 +137,7 @@ impl Session {
     }
 
     // To another session, or a mismatch where negotiation is in force and nothing is common.
+    #[tactic(auto, unfolding(choice::specs::Pick::pick, crate::specs::Decisions::settled))]
     pub(crate) fn negotiate(self, after: Session) -> After
         ensures { result ≡ settled self (Negotiate after) }
     {
@@ -141,6 +148,7 @@ impl Session {
     }
 
     // The same where nothing is permitted yet: the session opens, or it is a mismatch.
+    #[tactic(auto, using(crate::proofs::Shapes::mismatched_permits), unfolding(choice::specs::Pick::pick, crate::specs::Decisions::settled))]
     pub(crate) fn enter(self, after: Session) -> After
         requires { permitted self ≡ 0 }
         ensures { result ≡ settled self (Negotiate after) }
@@ -152,6 +160,7 @@ impl Session {
     }
 
     // The same, or turned away by a limit: that leaves the state of a mismatch.
+    #[tactic(auto, using(crate::proofs::Shapes::mismatched_permits), unfolding(choice::specs::Pick::pick, crate::specs::Decisions::settled, crate::specs::Limits::at_limit, sets::specs::Set::empty))]
     pub(crate) fn admit(self, after: Session, below_limit: u16) -> After
         requires { permitted self ≡ 0 }
         ensures { result ≡ settled self (Admit after below_limit) }
@@ -166,6 +175,7 @@ impl Session {
     }
 
     // The same as negotiate, and a message is written, which takes the next number. Out of force a change moves no kind.
+    #[tactic(auto, unfolding(choice::specs::Pick::pick, crate::specs::Decisions::settled, crate::specs::Session::nothing_common, sets::specs::Set::empty, crate::specs::Session::permitted, crate::specs::Session::permitted_by_base))]
     pub(crate) fn send(self, after: Session, written: u16) -> After
         requires { in_force after ≡ false → permitted after ≡ permitted self }
         ensures { result ≡ settled self (Send after written) }

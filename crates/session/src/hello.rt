@@ -8,6 +8,7 @@ use crate::{After, Session};
 
 impl Session {
     // The Hello recorded, in a state.
+    #[tactic(auto, unfolding(choice::specs::Pick::pick, crate::specs::Creation::raised))]
     fn greeted(mut self, state: u8, number: u32) -> Session
         ensures { result ≡ greeted self state number }
     {
@@ -18,6 +19,7 @@ impl Session {
     }
 
     // Hello received by a sound session, in any state. It moves no kind.
+    #[tactic(auto, unfolding(choice::specs::Pick::pick, crate::specs::Decisions::settled, crate::specs::Events::on_hello, crate::specs::With::held_to_ready))]
     pub fn hello_when_sound(self, number: u32) -> After
         requires { sound self ≡ true }
         ensures { result ≡ step self (Hello number) }
@@ -35,6 +37,7 @@ impl Session {
     }
 
     // Hello received.
+    #[tactic(auto, unfolding(choice::specs::Pick::pick, crate::specs::Decisions::settled, crate::specs::Events::on_hello))]
     pub fn hello(self, number: u32) -> After
         ensures { result ≡ step self (Hello number) }
     {

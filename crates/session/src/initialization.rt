@@ -29,6 +29,7 @@ impl Session {
     }
 
     // Open by what the area holds, before any mismatch is looked for.
+    #[tactic(auto, unfolding(choice::specs::Pick::pick, crate::specs::Events::after_initialization))]
     fn after_initialization(self, area: &[u8], found: Reading) -> Session
         requires { Inside (length area.now) found }
         ensures { result ≡ after_initialization self area.now found }
@@ -55,6 +56,7 @@ impl Session {
     }
 
     // Initialization received (Ready only) where there is no row, and so no limit.
+    #[tactic(auto, using(crate::proofs::Shapes::ready_permits, crate::proofs::Steps::initialization_all), unfolding(choice::specs::Pick::pick, crate::specs::Decisions::settled))]
     pub fn initialization(self, area: &[u8]) -> After
         ensures { result ≡ step self (Initialization area.now all_applications) }
     {
@@ -72,6 +74,7 @@ impl Session {
     }
 
     // Initialization received by a sound session, told the applications that are below their limit.
+    #[tactic(auto, using(crate::proofs::Shapes::ready_permits), unfolding(choice::specs::Pick::pick, crate::specs::Decisions::settled, crate::specs::Events::on_initialization))]
     pub fn initialization_when_sound(self, area: &[u8], below_limit: u16) -> After
         requires { sound self ≡ true }
         ensures { result ≡ step self (Initialization area.now below_limit) }

@@ -1,3 +1,4 @@
+#![tactic(auto, unfolding(choice::specs::Pick::pick))]
 // One targeted session, in numbers: the stored record's fields under document 01's names, and the capabilities of both ends. Every bit pattern is a
 // value; `sound` says which of them is a session, and every event asks it first.
 ghost use Rattle.std.specs.Prelude.{◌≡◌, ◌<◌};
@@ -23,7 +24,7 @@ mod unknown;
 mod wish;
 
 #[repr(C)]
-#[derive(Drop)]
+#[derive(Clone, Copy)]
 pub struct Session {
     pub state: u8,
     pub flags: u8,
@@ -39,7 +40,7 @@ pub struct Session {
 
 // What an event answers: numbers and sets of document 01.
 #[repr(C)]
-#[derive(Drop)]
+#[derive(Clone, Copy)]
 pub struct Answer {
     pub refusal: u8,
     pub outcome: u8,
@@ -50,7 +51,7 @@ pub struct Answer {
 
 // The session after an event, and the answer.
 #[repr(C)]
-#[derive(Drop)]
+#[derive(Clone, Copy)]
 pub struct After {
     pub session: Session,
     pub answer: Answer,
@@ -58,7 +59,7 @@ pub struct After {
 
 // What is settled at creation, our capabilities among it, and our wishes.
 #[repr(C)]
-#[derive(Drop)]
+#[derive(Clone, Copy)]
 pub struct Settings {
     pub initiating: bool,
     pub active: bool,
@@ -72,7 +73,7 @@ pub struct Settings {
 }
 
 // What creation answers.
-#[derive(Drop)]
+#[derive(Clone, Copy)]
 pub enum Created {
     Fresh(Session),
     Refused(u8),
@@ -80,7 +81,7 @@ pub enum Created {
 
 // Whether a kind may be sent.
 #[repr(C)]
-#[derive(Drop)]
+#[derive(Clone, Copy)]
 pub struct Permission {
     pub refusal: u8,
     pub permitted: u8,
@@ -88,7 +89,7 @@ pub struct Permission {
 
 // The kinds that may be sent.
 #[repr(C)]
-#[derive(Drop)]
+#[derive(Clone, Copy)]
 pub struct Kinds {
     pub refusal: u8,
     pub kinds: u16,
@@ -96,7 +97,7 @@ pub struct Kinds {
 
 // Why a kind may not be sent.
 #[repr(C)]
-#[derive(Drop)]
+#[derive(Clone, Copy)]
 pub struct Reason {
     pub refusal: u8,
     pub reason: u8,
@@ -104,7 +105,7 @@ pub struct Reason {
 
 // The retry interval.
 #[repr(C)]
-#[derive(Drop)]
+#[derive(Clone, Copy)]
 pub struct Retry {
     pub refusal: u8,
     pub interval: u16,
@@ -229,6 +230,7 @@ impl Session {
     }
 
     // In force with no application both enabled and listed.
+    #[tactic(auto, unfolding(choice::specs::Pick::pick, crate::specs::Session::nothing_common, sets::specs::Set::empty))]
     fn nothing_common(self) -> bool
         ensures { result ≡ nothing_common self }
     {
@@ -236,6 +238,7 @@ impl Session {
     }
 
     // The state, Held as Ready.
+    #[tactic(auto, unfolding(choice::specs::Pick::pick, crate::specs::With::held_to_ready))]
     fn held_to_ready(self) -> u8
         ensures { result ≡ held_to_ready self }
     {
@@ -257,6 +260,7 @@ fn pick(holds: bool, one: u16, other: u16) -> u16
 }
 
 // Flags with more of them, where `on` holds.
+#[tactic(auto, unfolding(choice::specs::Pick::pick, crate::specs::Creation::raised))]
 fn raised(flags: u8, on: bool, more: u16) -> u8
     requires { more < 256 }
     ensures { result ≡ raised flags on more }

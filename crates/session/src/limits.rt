@@ -7,6 +7,7 @@ use crate::Session;
 
 impl Session {
     // The applications that a sound session uses: out of force nothing is listed.
+    #[tactic(auto, unfolding(choice::specs::Pick::pick, crate::specs::Limits::used))]
     pub fn used_when_sound(self) -> u16
         requires { sound self ≡ true }
         ensures { result ≡ used self }

@@ -18,6 +18,7 @@ impl Session {
     }
 
     // In Open with TAC used a change is written; any other is only set, and moves no kind.
+    #[tactic(auto, unfolding(choice::specs::Pick::pick, crate::specs::Decisions::settled, crate::specs::Events::writing))]
     fn writing(self, after: Session, room: usize) -> After
         requires { ((is_open self && uses_tac self) ≡ false → permitted after ≡ permitted self) × (in_force after ≡ false → permitted after ≡ permitted self) }
         ensures { result ≡ settled self (writing self after room) }
@@ -35,6 +36,7 @@ impl Session {
     }
 
     // The change, told how many octets of room there are; what it writes is put there by `message::write`.
+    #[tactic(auto, unfolding(choice::specs::Pick::pick, crate::specs::Decisions::settled, crate::specs::Events::on_local_change))]
     pub fn local_change(self, app: TaId, on: bool, room: usize) -> After
         ensures { result ≡ step self (LocalChange app.0 on room) }
     {

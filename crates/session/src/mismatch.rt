@@ -52,6 +52,7 @@ impl Session {
     }
 
     // The session after a mismatch. Like the permitted kinds it is picked field by field, and so is put in place where it is asked.
+    #[tactic(auto, unfolding(choice::specs::Pick::pick, crate::specs::With::mismatched))]
     pub(crate) fn mismatched(self) -> Session
         ensures { result ≡ mismatched self }
     {
@@ -61,6 +62,7 @@ impl Session {
     }
 
     // Mismatch notification received (Ready or Open) by a sound session.
+    #[tactic(auto, unfolding(choice::specs::Pick::pick, crate::specs::Decisions::settled, crate::specs::Events::on_mismatch))]
     pub fn mismatch_when_sound(self) -> After
         requires { sound self ≡ true }
         ensures { result ≡ step self Mismatch }
@@ -72,6 +74,7 @@ impl Session {
     }
 
     // Mismatch notification received. It does not call the one above, so that each is called from one place and is put there.
+    #[tactic(auto, unfolding(choice::specs::Pick::pick, crate::specs::Decisions::settled, crate::specs::Events::on_mismatch))]
     pub fn mismatch(self) -> After
         ensures { result ≡ step self Mismatch }
     {

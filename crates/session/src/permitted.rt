@@ -7,6 +7,7 @@ use crate::Session;
 
 impl Session {
     // The kinds that document 01's rule permits, whatever capabilities the ends hold. It picks and does not branch, and so is put in place where it is asked.
+    #[tactic(auto, unfolding(choice::specs::Pick::pick, crate::specs::Session::permitted_by_base))]
     pub fn permitted_by_base(self) -> u16
         ensures { result ≡ permitted_by_base self }
     {
@@ -17,6 +18,7 @@ impl Session {
     }
 
     // The permitted kinds of a session, sound or not.
+    #[tactic(auto, unfolding(choice::specs::Pick::pick, crate::specs::Session::permitted))]
     pub fn permitted(self) -> u16
         ensures { result ≡ permitted self }
     {
@@ -25,6 +27,7 @@ impl Session {
     }
 
     // Whether one kind is among them; the other nine are not looked at.
+    #[tactic(auto, using(crate::proofs::PermittedMeans::asked_shut, crate::proofs::PermittedMeans::asked_disabled, crate::proofs::PermittedMeans::asked_barred, crate::proofs::PermittedMeans::asked_free, crate::proofs::PermittedMeans::base_in_force, crate::proofs::PermittedMeans::base_unforced), unfolding(choice::specs::Pick::pick))]
     pub(crate) fn permits(self, kind: u16) -> bool
         ensures { result ≡ has (permitted self) kind }
     {

@@ -27,6 +27,7 @@ impl Session {
     const NOT_THEIRS: u8 = 6;
 
     // The set of the kinds that may be sent.
+    #[tactic(auto, unfolding(choice::specs::Pick::pick, crate::specs::Questions::permitted_kinds))]
     pub fn permitted_kinds(self) -> Kinds
         ensures { result ≡ permitted_kinds self }
     {
@@ -43,6 +44,7 @@ impl Session {
     }
 
     // Whether one kind may be sent.
+    #[tactic(auto, unfolding(choice::specs::Pick::pick, crate::specs::Questions::permission))]
     pub fn permission(self, kind: u32) -> Permission
         ensures { result ≡ permission self kind }
     {
@@ -71,6 +73,7 @@ impl Session {
     }
 
     // The reasons by capabilities: the one that the kind needs is not ours, or not the peer's.
+    #[tactic(auto, unfolding(choice::specs::Pick::pick, crate::specs::Questions::why_barred))]
     fn why_barred(self, kind: u16) -> u8
         ensures { result ≡ why_barred self kind }
     {
@@ -84,6 +87,7 @@ impl Session {
     }
 
     // The reasons of negotiation in force: an application that opens the kind is both enabled and listed, or enabled, or neither.
+    #[tactic(auto, unfolding(choice::specs::Pick::pick, kinds::specs::Kinds::opened))]
     fn why_in_force(self, kind: u16) -> u8
         ensures { result ≡ pick (not (has (opened self.protects self.enabled) kind)) why_not_enabled (pick (not (has (opened self.protects (negotiated self)) kind)) why_not_listed (why_barred self kind)) }
     {
@@ -97,6 +101,7 @@ impl Session {
     }
 
     // The first of the reasons that holds.
+    #[tactic(auto, unfolding(choice::specs::Pick::pick, crate::specs::Questions::why, crate::specs::Questions::unopened))]
     fn why(self, kind: u16) -> u8
         ensures { result ≡ why self kind }
     {
@@ -113,6 +118,7 @@ impl Session {
     }
 
     // Why one kind may not be sent.
+    #[tactic(auto, unfolding(choice::specs::Pick::pick, crate::specs::Questions::why_not))]
     pub fn why_not(self, kind: u32) -> Reason
         ensures { result ≡ why_not self kind }
     {
@@ -135,6 +141,7 @@ impl Session {
     }
 
     // How long to wait before a retry: for ever in Held, else not at all.
+    #[tactic(auto, unfolding(choice::specs::Pick::pick, crate::specs::Questions::retry_interval))]
     pub fn retry_interval(self) -> Retry
         ensures { result ≡ retry_interval self }
     {

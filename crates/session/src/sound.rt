@@ -20,6 +20,7 @@ impl Session {
     const CAPABILITIES_END: u8 = 1 << Capability::COUNT;
 
     // The state is one of the four, and no spare bit is set.
+    #[tactic(auto, unfolding(choice::specs::Pick::pick, crate::specs::Session::spare_zero, sets::specs::Set::below))]
     fn spare_zero(self) -> bool
         ensures { result ≡ spare_zero self }
     {
@@ -36,6 +37,7 @@ impl Session {
     }
 
     // In Open, listed empty unless in force, and in force only with TAC used and a common application.
+    #[tactic(auto, unfolding(choice::specs::Pick::pick, sets::specs::Set::empty))]
     fn lists_sound(self) -> bool
         ensures { result ≡ pick (in_force self) (uses_tac self && not (empty (negotiated self))) (empty self.listed) }
     {
@@ -47,6 +49,7 @@ impl Session {
 
     // In no other state in force, listed, disabled or dynamic, and no capability of the peer. Held only if active and not (initiating and drops). Gone only if active, initiating
     // and drops, with no Hello recorded.
+    #[tactic(auto, unfolding(choice::specs::Pick::pick, crate::specs::Session::held_sound, crate::specs::Session::gone_sound, sets::specs::Set::empty))]
     fn shut_sound(self) -> bool
         ensures { result ≡ pick (empty (common self.flags cleared_out_of_open) && (empty self.listed && (empty self.disabled && empty self.theirs))) (held_sound self && gone_sound self) false }
     {
@@ -65,6 +68,7 @@ impl Session {
     }
 
     // Hello number 0 unless recorded.
+    #[tactic(auto, unfolding(choice::specs::Pick::pick, crate::specs::Session::hello_sound))]
     fn hello_sound(self) -> bool
         ensures { result ≡ hello_sound self }
     {
@@ -75,6 +79,7 @@ impl Session {
     }
 
     // All of them, by the state; once one fails the others are not asked.
+    #[tactic(auto, unfolding(choice::specs::Pick::pick, sets::specs::Set::meets, sets::specs::Set::with, sets::specs::Set::union, crate::specs::Session::sound, crate::specs::Session::force_sound, crate::specs::Session::listed_sound, crate::specs::Session::open_sound, crate::specs::Session::theirs_sound, crate::specs::Session::held_sound, crate::specs::Session::gone_sound))]
     pub fn sound(self) -> bool
         ensures { result ≡ sound self }
     {

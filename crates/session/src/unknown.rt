@@ -6,6 +6,7 @@ use crate::{After, Session};
 
 impl Session {
     // It is for no state.
+    #[tactic(auto, unfolding(choice::specs::Pick::pick, crate::specs::Decisions::settled, crate::specs::Events::on_unknown))]
     pub fn unknown(self) -> After
         ensures { result ≡ step self Unknown }
     {

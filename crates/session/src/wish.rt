@@ -8,6 +8,7 @@ use kinds::SacApp;
 
 impl Session {
     // A message about what stands beside the session takes the next number, and moves no kind.
+    #[tactic(auto, unfolding(choice::specs::Pick::pick, crate::specs::Session::permitted, crate::specs::Session::permitted_by_base, crate::specs::Decisions::settled))]
     fn tell(self, written: u16) -> After
         ensures { result ≡ settled self (Tell written) }
     {
@@ -15,6 +16,7 @@ impl Session {
     }
 
     // In Open a wish is told to a peer that takes Capability messages.
+    #[tactic(auto, unfolding(choice::specs::Pick::pick, crate::specs::Decisions::settled, crate::specs::Events::telling))]
     fn telling(self, room: usize) -> After
         ensures { result ≡ settled self (telling self room) }
     {
@@ -31,6 +33,7 @@ impl Session {
     }
 
     // The wish, told how many octets of room there are; what it writes is put there by `message::write`, and the wishes after it are `wishes::after`.
+    #[tactic(auto, using(wishes::proofs::Few::sound_few), unfolding(choice::specs::Pick::pick, crate::specs::Decisions::settled, crate::specs::Events::on_wish))]
     pub fn wish(self, wishes: u32, app: SacApp, disable: bool, room: usize) -> After
         ensures { result ≡ step self (Wish wishes app.0 disable room) }
     {

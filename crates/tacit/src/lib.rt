@@ -1,3 +1,4 @@
+#![tactic(auto)]
 // What the label daemon calls. Each function decodes the record that it is lent, lets the session answer, and stores the session after it; none asks
 // anything of its caller. include/tacit.h says the same to C.
 ghost use Rattle.std.specs.Prelude.{◌≡◌, length};
@@ -28,35 +29,28 @@ use wishes::{Want, Written};
 
 // What a wish answers, and the wishes after it.
 #[repr(C)]
-#[derive(Drop)]
+#[derive(Clone, Copy)]
 pub struct Wished {
     pub answer: Answer,
     pub wishes: u32,
 }
 
-#[unsafe(no_mangle)]
-pub extern "C" fn tacit_initialization(lent: &mut [u8], area: &[u8]) -> Answer
+pub fn tacit_initialization(lent: &mut [u8], area: &[u8]) -> Answer
     ensures { Carried (step (decoded lent.old) (Initialization area.now all_applications)) lent.old result lent.new }
 {
     let after = record::decoded(lent).initialization(area);
     record::carry(lent, after)
 }
 
-#[unsafe(no_mangle)]
-pub extern "C" fn tacit_capability(lent: &mut [u8], area: &[u8]) -> Answer
+pub fn tacit_capability(lent: &mut [u8], area: &[u8]) -> Answer
     ensures { Carried (step (decoded lent.old) (Capability area.now)) lent.old result lent.new }
 {
     let after = record::decoded(lent).capability(area);
     record::carry(lent, after)
 }
 
-#[unsafe(no_mangle)]
-pub extern "C" fn tacit_local_change(
-    lent: &mut [u8],
-    ta_id: u32,
-    on: bool,
-    room: &mut [u8],
-) -> Answer
+#[tactic(auto, unfolding(choice::specs::Pick::pick, session::specs::Events::room_after))]
+pub fn tacit_local_change(lent: &mut [u8], ta_id: u32, on: bool, room: &mut [u8]) -> Answer
     ensures carried { Carried (step (decoded lent.old) (LocalChange ta_id on (length room.old))) lent.old result lent.new }
     ensures room_after { room.new ≡ room_after (decoded lent.old) (LocalChange ta_id on (length room.old)) room.old }
 {
@@ -71,14 +65,8 @@ pub extern "C" fn tacit_local_change(
     record::carry(lent, after)
 }
 
-#[unsafe(no_mangle)]
-pub extern "C" fn tacit_wish(
-    lent: &mut [u8],
-    wishes: u32,
-    app: u32,
-    disable: bool,
-    room: &mut [u8],
-) -> Wished
+#[tactic(auto, unfolding(choice::specs::Pick::pick, session::specs::Events::room_after))]
+pub fn tacit_wish(lent: &mut [u8], wishes: u32, app: u32, disable: bool, room: &mut [u8]) -> Wished
     ensures carried { Carried (step (decoded lent.old) (Wish wishes app disable (length room.old))) lent.old result.answer lent.new }
     ensures wishes_value { result.wishes ≡ wishes_after wishes app disable result.answer.refusal }
     ensures room_after { room.new ≡ room_after (decoded lent.old) (Wish wishes app disable (length room.old)) room.old }
@@ -99,24 +87,21 @@ pub extern "C" fn tacit_wish(
     }
 }
 
-#[unsafe(no_mangle)]
-pub extern "C" fn tacit_mismatch(lent: &mut [u8]) -> Answer
+pub fn tacit_mismatch(lent: &mut [u8]) -> Answer
     ensures { Carried (step (decoded lent.old) Mismatch) lent.old result lent.new }
 {
     let after = record::decoded(lent).mismatch();
     record::carry(lent, after)
 }
 
-#[unsafe(no_mangle)]
-pub extern "C" fn tacit_hello(lent: &mut [u8], number: u32) -> Answer
+pub fn tacit_hello(lent: &mut [u8], number: u32) -> Answer
     ensures { Carried (step (decoded lent.old) (Hello number)) lent.old result lent.new }
 {
     let after = record::decoded(lent).hello(number);
     record::carry(lent, after)
 }
 
-#[unsafe(no_mangle)]
-pub extern "C" fn tacit_closed(lent: &mut [u8]) -> Answer
+pub fn tacit_closed(lent: &mut [u8]) -> Answer
     ensures { Carried (step (decoded lent.old) Closed) lent.old result lent.new }
 {
     let after = record::decoded(lent).closed();
@@ -124,6 +109,7 @@ pub extern "C" fn tacit_closed(lent: &mut [u8]) -> Answer
 }
 
 // Stores a fresh session in a room of 24 octets, or answers why not.
+#[tactic(auto, unfolding(choice::specs::Pick::pick, crate::specs::Creation::created_in, record::specs::Record::stored_in, crate::specs::Creation::creation_refusal))]
 fn created_in(lent: &mut [u8], made: Created) -> u8
     ensures { CreatedIn made lent.old result lent.new }
 {
@@ -139,115 +125,100 @@ fn created_in(lent: &mut [u8], made: Created) -> u8
     refusals::NOT_SOUND
 }
 
-#[unsafe(no_mangle)]
-pub extern "C" fn tacit_create(lent: &mut [u8], settings: Settings) -> u8
+pub fn tacit_create(lent: &mut [u8], settings: Settings) -> u8
     ensures { CreatedIn (created settings) lent.old result lent.new }
 {
     let made = Session::new(settings);
     created_in(lent, made)
 }
 
-#[unsafe(no_mangle)]
-pub extern "C" fn tacit_read(area: &[u8]) -> Reading
+pub fn tacit_read(area: &[u8]) -> Reading
     ensures { result ≡ read_area area.now }
 {
     area::read_area(area)
 }
 
-#[unsafe(no_mangle)]
-pub extern "C" fn tacit_permitted(lent: &[u8], kind: u32) -> Permission
+pub fn tacit_permitted(lent: &[u8], kind: u32) -> Permission
     ensures { result ≡ permission (decoded lent.now) kind }
 {
     record::decoded(lent).permission(kind)
 }
 
-#[unsafe(no_mangle)]
-pub extern "C" fn tacit_permitted_kinds(lent: &[u8]) -> Kinds
+pub fn tacit_permitted_kinds(lent: &[u8]) -> Kinds
     ensures { result ≡ permitted_kinds (decoded lent.now) }
 {
     record::decoded(lent).permitted_kinds()
 }
 
-#[unsafe(no_mangle)]
-pub extern "C" fn tacit_why_not(lent: &[u8], kind: u32) -> Reason
+pub fn tacit_why_not(lent: &[u8], kind: u32) -> Reason
     ensures { result ≡ why_not (decoded lent.now) kind }
 {
     record::decoded(lent).why_not(kind)
 }
 
-#[unsafe(no_mangle)]
-pub extern "C" fn tacit_wish_sac(wishes: u32, room: &mut [u8]) -> Written
+pub fn tacit_wish_sac(wishes: u32, room: &mut [u8]) -> Written
     ensures { (result ≡ wish_sac wishes (length room.old)) × (room.new ≡ sac_room wishes room.old) }
 {
     wishes::sac(wishes, room)
 }
 
-#[unsafe(no_mangle)]
-pub extern "C" fn tacit_wanted(wishes: u32, kind: u32) -> Want
+pub fn tacit_wanted(wishes: u32, kind: u32) -> Want
     ensures { result ≡ wanted wishes kind }
 {
     wishes::wanted(wishes, kind)
 }
 
-#[unsafe(no_mangle)]
-pub extern "C" fn tacit_retry_interval(lent: &[u8]) -> Retry
+pub fn tacit_retry_interval(lent: &[u8]) -> Retry
     ensures { result ≡ retry_interval (decoded lent.now) }
 {
     record::decoded(lent).retry_interval()
 }
 
-#[unsafe(no_mangle)]
-pub extern "C" fn tacit_sound(lent: &[u8]) -> bool
+pub fn tacit_sound(lent: &[u8]) -> bool
     ensures { result ≡ sound (decoded lent.now) }
 {
     record::decoded(lent).sound()
 }
 
-#[unsafe(no_mangle)]
-pub extern "C" fn tacit_load(lent: &[u8]) -> Loaded
+pub fn tacit_load(lent: &[u8]) -> Loaded
     ensures { result ≡ load lent.now }
 {
     record::load(lent)
 }
 
-#[unsafe(no_mangle)]
-pub extern "C" fn tacit_store(session: Session, lent: &mut [u8]) -> u8
+pub fn tacit_store(session: Session, lent: &mut [u8]) -> u8
     ensures { (result ≡ store_refusal session lent.old) × (lent.new ≡ store_octets session lent.old) }
 {
     record::store(session, lent)
 }
 
-#[unsafe(no_mangle)]
-pub extern "C" fn tacit_forward(kind1: &[u8], kind2: &mut [u8]) -> Moved
+pub fn tacit_forward(kind1: &[u8], kind2: &mut [u8]) -> Moved
     ensures { (result ≡ forward kind1.now kind2.old) × (kind2.new ≡ forward_room kind1.now kind2.old) }
 {
     record::moves::forward(kind1, kind2)
 }
 
-#[unsafe(no_mangle)]
-pub extern "C" fn tacit_back(kind2: &[u8], kind1: &mut [u8]) -> u8
+pub fn tacit_back(kind2: &[u8], kind1: &mut [u8]) -> u8
     ensures { (result ≡ back_refusal kind2.now kind1.old) × (kind1.new ≡ back_room kind2.now kind1.old) }
 {
     record::moves::back(kind2, kind1)
 }
 
-#[unsafe(no_mangle)]
-pub extern "C" fn tacit_no_limits() -> Limits
+pub fn tacit_no_limits() -> Limits
     ensures { result ≡ no_limits }
 {
     Limits::none()
 }
 
-#[unsafe(no_mangle)]
-pub extern "C" fn tacit_set_limit(limits: Limits, ta_id: u32, limit: u32) -> Limited
+pub fn tacit_set_limit(limits: Limits, ta_id: u32, limit: u32) -> Limited
     ensures { result ≡ limited limits ta_id limit }
 {
     limits.limited(TaId(ta_id), limit)
 }
 
 // The row is lent: one pass over it, and the answer by value.
-#[unsafe(no_mangle)]
-pub extern "C" fn tacit_row_count(row: &[Session], ta_id: u32) -> Count
+#[tactic(auto, using(row::proofs::Found::count_found, row::proofs::Tallied::not_counted_law))]
+pub fn tacit_row_count(row: &[Session], ta_id: u32) -> Count
     ensures { result ≡ count_of row.now ta_id }
 {
     if (0 < row.len()) & (row.len() <= row::MOST_SESSIONS) {
@@ -258,16 +229,15 @@ pub extern "C" fn tacit_row_count(row: &[Session], ta_id: u32) -> Count
     row::uncounted()
 }
 
-#[unsafe(no_mangle)]
-pub extern "C" fn tacit_kind_total(totals: Totals, kind: u32) -> Total
+pub fn tacit_kind_total(totals: Totals, kind: u32) -> Total
     ensures { result ≡ kind_total totals kind }
 {
     totals.of_kind(kind)
 }
 
 // The row is lent: the same pass over it, of kinds.
-#[unsafe(no_mangle)]
-pub extern "C" fn tacit_recount(row: &[Session]) -> RowTotals
+#[tactic(auto, using(row::proofs::Found::recount_found, row::proofs::Tallied::not_totalled_law))]
+pub fn tacit_recount(row: &[Session]) -> RowTotals
     ensures { result ≡ recount row.now }
 {
     if (0 < row.len()) & (row.len() <= row::MOST_SESSIONS) {
@@ -279,8 +249,8 @@ pub extern "C" fn tacit_recount(row: &[Session]) -> RowTotals
 }
 
 // The row is lent: one pass over it, then the session is taken out, the event happens to it by value, and it is stored back.
-#[unsafe(no_mangle)]
-pub extern "C" fn tacit_row_event(
+#[tactic(auto, using(row::proofs::Found::sound_told, row::proofs::Tallied::outside_answer, row::proofs::Tallied::outside_row_law, row::proofs::Tallied::outside_room))]
+pub fn tacit_row_event(
     row: &mut [Session],
     at: usize,
     event: EventNumbers,

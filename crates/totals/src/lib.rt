@@ -1,3 +1,4 @@
+#![tactic(auto)]
 // How many sessions of a row permit each kind: totals that are kept with the row and brought up to date from what each event lost and gained.
 ghost use Rattle.std.specs.Prelude.{◌≡◌, ltb, true, false};
 ghost use Rattle.choice.specs.Pick.{pick};
@@ -18,14 +19,14 @@ const BELOW_0: u32 = u32::MAX;
 
 // Totals by kind: kind k at place k.
 #[repr(C)]
-#[derive(Drop)]
+#[derive(Clone, Copy)]
 pub struct Totals {
     pub each: [u8; KINDS],
 }
 
 // How many sessions permit a kind.
 #[repr(C)]
-#[derive(Drop)]
+#[derive(Clone, Copy)]
 pub struct Total {
     pub refusal: u8,
     pub total: u8,
@@ -33,27 +34,28 @@ pub struct Total {
 
 // What an event of a row answers, and the totals after it.
 #[repr(C)]
-#[derive(Drop)]
+#[derive(Clone, Copy)]
 pub struct RowAnswer {
     pub answer: Answer,
     pub totals: Totals,
 }
 
 // The session after an event of a row, and the answer.
-#[derive(Drop)]
+#[derive(Clone, Copy)]
 pub struct Totalled {
     pub session: Session,
     pub answer: RowAnswer,
 }
 
 // The totals after an event, or that one of them would come to stand outside 0 to 64, and then as they were.
-#[derive(Drop)]
+#[derive(Clone, Copy)]
 struct Moved {
     outside: bool,
     totals: Totals,
 }
 
 // The total of a kind that moves, lost or else gained, after the event: above 64 where it would come to stand outside.
+#[tactic(auto, unfolding(crate::specs::Totals::goes_outside, crate::specs::Totals::total_after, choice::specs::Pick::pick))]
 fn stepped(total: u8, lost: bool) -> u32
     ensures { (ltb highest_total result ≡ goes_outside total lost true) × (goes_outside total lost true ≡ false → result ≡ total_after total lost true) }
 {
@@ -68,6 +70,7 @@ fn stepped(total: u8, lost: bool) -> u32
 }
 
 // The event's own, or its refusal with 16.
+#[tactic(auto, unfolding(choice::specs::Pick::pick))]
 fn unless_outside(outside: bool, before: Session, after: After) -> After
     ensures { result ≡ pick outside (refused before total_outside) after }
 {
@@ -124,6 +127,7 @@ impl Totals {
     }
 
     // How many sessions permit a kind.
+    #[tactic(auto, unfolding(choice::specs::Pick::pick, crate::specs::Totals::kind_total))]
     pub fn of_kind(self, kind: u32) -> Total
         ensures { result ≡ kind_total self kind }
     {

@@ -1,3 +1,4 @@
+#![tactic(auto)]
 // Our wishes: the Apps of whose kind we want no bindings. They stand beside the session and are handed in as C keeps them.
 ghost use Rattle.std.specs.Prelude.{◌≡◌, true, length};
 ghost use Rattle.refusals.specs.Refusals.{not_refused};
@@ -7,7 +8,7 @@ use kinds::SacApp;
 
 // Whether an arriving binding of a kind is wanted.
 #[repr(C)]
-#[derive(Drop)]
+#[derive(Clone, Copy)]
 pub struct Want {
     pub refusal: u8,
     pub wanted: u8,
@@ -15,7 +16,7 @@ pub struct Want {
 
 // How many octets were written.
 #[repr(C)]
-#[derive(Drop)]
+#[derive(Clone, Copy)]
 pub struct Written {
     pub refusal: u8,
     pub written: u16,
@@ -25,6 +26,7 @@ pub struct Written {
 const APPS_LIMIT: u32 = 1 << SacApp::COUNT;
 
 // Whether no bit is beyond the four Apps.
+#[tactic(auto, unfolding(choice::specs::Pick::pick, crate::specs::Wishes::sound_wishes, sets::specs::Set::below))]
 pub fn sound(wishes: u32) -> bool
     ensures { result ≡ sound_wishes wishes }
 {
@@ -32,6 +34,7 @@ pub fn sound(wishes: u32) -> bool
 }
 
 // The wishes after one about an App, which answered with this refusal.
+#[tactic(auto, using(crate::proofs::Few::sound_few, crate::proofs::Few::sac_short), unfolding(choice::specs::Pick::pick, crate::specs::Wishes::wishes_after))]
 pub fn after(wishes: u32, app: SacApp, disable: bool, refusal: u8) -> u32
     requires { refusal ≡ not_refused → sound_wishes wishes ≡ true }
     ensures { result ≡ wishes_after wishes app.0 disable refusal }
@@ -43,6 +46,7 @@ pub fn after(wishes: u32, app: SacApp, disable: bool, refusal: u8) -> u32
 }
 
 // Whether a binding of this kind is wanted.
+#[tactic(auto, using(crate::proofs::Few::sound_few, crate::proofs::Few::sac_short), unfolding(choice::specs::Pick::pick, crate::specs::Wishes::wanted))]
 pub fn wanted(wishes: u32, kind: u32) -> Want
     ensures { result ≡ wanted wishes kind }
 {
@@ -71,6 +75,7 @@ pub fn wanted(wishes: u32, kind: u32) -> Want
 }
 
 // Writes the SAC for an Initialization over the front of the room.
+#[tactic(auto, using(crate::proofs::Few::sound_few, crate::proofs::Few::sac_short), unfolding(choice::specs::Pick::pick, crate::specs::Wishes::wish_sac, crate::specs::Wishes::sac_room))]
 pub fn sac(wishes: u32, room: &mut [u8]) -> Written
     ensures { (result ≡ wish_sac wishes (length room.old)) × (room.new ≡ sac_room wishes room.old) }
 {
