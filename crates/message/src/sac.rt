@@ -82,7 +82,7 @@ fn put_sac(room: &mut [u8], n: usize, wishes: u8)
 
 // The SAC for these wishes over the front of the room; without room for all of it nothing is written. How many octets it has: none where no App is
 // wished disabled.
-#[tactic(auto, unfolding(choice::specs::Pick::pick, sets::specs::Set::empty))]
+#[tactic(auto, unfolding(choice::specs::Pick::pick, sets::specs::Set::empty, crate::specs::Sac::sac_for, octets::specs::Octets::over))]
 pub fn write_sac(room: &mut [u8], wishes: u8) -> usize
     ensures { (result ≡ length (sac_octets wishes)) × (room.new ≡ over (sac_octets wishes) room.old) }
 {

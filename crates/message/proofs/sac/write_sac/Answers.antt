@@ -2,26 +2,19 @@
 use Prim.Native.Nat.{ℕ, ◌+◌}
 use mathlib.Core.Path.{◌≡◌, sym, ap}
 use mathlib.Core.Bool.{false}
-use mathlib.Core.List.{[]}
 use native.Mathlib.Omega.{arith}
 use lib.ListN.{length}
-use borrow.Author.Tests.{eq-eqb, ne_eqb}
+use borrow.Author.Tests.{ne_eqb}
 use Rattle.sets.specs.Set.{empty}
 use Rattle.kinds.specs.Kinds.{app_count}
-use Rattle.octets.proofs.Front.{over_fits, over_short}
+use Rattle.octets.proofs.Front.{over_short}
 use Rattle.message.specs.Sac.{wish_elements, sac_octets}
-use Rattle.message.proofs.Elements.{elements_most, sac_none, sac_one}
+use Rattle.message.proofs.Elements.{elements_most, sac_one}
 use Rattle.message.proofs.sac.write_sac.Goals as goal
 
 -- how many octets it has
 whole_is : (wishes n : ℕ) → empty wishes ≡ false → n ≡ length (wish_elements wishes app_count) → 5 + n ≡ length (sac_octets wishes)
 whole_is wishes n some e = omega (arith, ap length (sac_one wishes some))
-
-pub returns-then-wishes-eq0 : goal.returns-then-wishes-eq0
-unfolding empty
-returns-then-wishes-eq0 c =
-    let none = sac_none c.args.wishes (eq-eqb _ _ c.if-wishes-eq0.true) in
-    (sym (ap length none), rw none (sym (over_fits [] _ (omega arith))))
 
 pub overflow_add-whole-2 : goal.overflow_add-whole-2
 overflow_add-whole-2 c = omega (arith, c.elements_count-n.ensures, elements_most c.args.wishes app_count)
