@@ -22,7 +22,7 @@ help:
 	@echo "make            prove the library and build it: build/libtacit.a, tacit.h, tacit.pc"
 	@echo "make install    put these below PREFIX ($(PREFIX)), below DESTDIR if it is set"
 	@echo "make demo       run examples/: friday.c, the incident replayed in words, ring.c, a night with limits, border.c, a night without prefixes, multicast.c, a peer without P2MP that then announces it, upgrade.c, records of an older version moved, daemon.c, a daemon in small"
-	@echo "make test       the gate: c-test, second, compare and some mutants, then every crate proved from nothing"
+	@echo "make test       the gate: c-test, second, compare and some mutants, then every crate proved"
 	@echo "make c-test     check the library through C: tests, sanitizers, header, demos"
 	@echo "make compare    the library and the same in plain C against the second implementation; CALLS=$(CALLS) SEED=$(SEED)"
 	@echo "make mutants    break the second implementation rule by rule; each must be noticed; MUTANTS=names for some"

@@ -26,7 +26,7 @@ kinds_determined : KindsDetermined
 kinds_determined =
     record {
       is_known = by_equation _;
-      is_in_law = by_equation _;
+      is_in = by_equation _;
       switched = by_equation _;
       app_is_known = by_equation _;
       app_is_in = by_equation _;
@@ -46,7 +46,7 @@ octets_determined =
     record {
       put = λ κs. by_law _ (λ a r s p. p);
       put_at = λ κs. by_law _ (λ a r s p. p);
-      top_bit_law = by_equation _;
+      top_bit = by_equation _;
       read16 = λ κs. by_equation _;
       read32 = λ κs. by_equation _;
     }
@@ -55,17 +55,17 @@ area_determined : AreaDetermined
 area_determined =
     record {
       at16 = λ κs. by_law _ (λ a r s p. p.0);
-      read_area_law = λ κs. by_equation _;
+      read_area = λ κs. by_equation _;
       part_within = λ κs. by_law _ (λ a r s p. p);
       part_of = λ κs. by_law _ (λ a r s p. p);
-      s_bit_law = λ κs. by_equation _;
+      s_bit = λ κs. by_equation _;
     }
 
 lists_determined : ListsDetermined
 lists_determined =
     record {
-      tac_list_law = λ κs. by_equation _;
-      sac_list_law = λ κs. by_equation _;
+      tac_list = λ κs. by_equation _;
+      sac_list = λ κs. by_equation _;
     }
 
 message_determined : MessageDetermined
@@ -90,11 +90,11 @@ session_determined =
       new = by_equation _;
       sound = by_equation _;
       permitted = by_equation _;
-      permitted_by_base_law = by_equation _;
-      permitted_kinds_law = by_equation _;
+      permitted_by_base = by_equation _;
+      permitted_kinds = by_equation _;
       permission = by_equation _;
-      why_not_law = by_equation _;
-      retry_interval_law = by_equation _;
+      why_not = by_equation _;
+      retry_interval = by_equation _;
       initialization_when_sound = λ κs. by_equation _;
       initialization = λ κs. by_equation _;
       used_when_sound = by_equation _;
@@ -115,7 +115,7 @@ session_determined =
 record_determined : RecordDetermined
 record_determined =
     record {
-      stored_in_law = λ κs. by_law _ (λ a r s p. p);
+      stored_in = λ κs. by_law _ (λ a r s p. p);
       decoded = λ κs. by_equation _;
       carry = λ κs. by_law _ (λ a r s p. both_same p.answer p.octets);
       load = λ κs. by_equation _;
@@ -133,13 +133,13 @@ row_determined =
       applications = by_equation _;
       kinds = by_equation _;
       counted = by_equation _;
-      no_limits_law = by_equation _;
+      no_limits = by_equation _;
       limited = by_equation _;
       count_by = by_equation _;
-      event_in_law = λ κs. by_law _ (λ a r s p. both_same p.0 p.1);
+      event_in = λ κs. by_law _ (λ a r s p. both_same p.0 p.1);
       outside = by_equation _;
       uncounted = by_equation _;
-      recount_by_law = by_equation _;
+      recount_by = by_equation _;
       untotalled = by_equation _;
       tally_of = λ κs. by_equation _;
     }

@@ -28,17 +28,17 @@ use Rattle.tacit.specs.contracts.tacit_hello as hello
 use Rattle.tacit.specs.contracts.tacit_closed as closed
 use Rattle.tacit.specs.contracts.tacit_read as read
 use Rattle.tacit.specs.contracts.tacit_permitted as permitted
-use Rattle.tacit.specs.contracts.tacit_permitted_kinds as permitted_kinds_law
-use Rattle.tacit.specs.contracts.tacit_why_not as why_not_law
+use Rattle.tacit.specs.contracts.tacit_permitted_kinds as permitted_kinds_call
+use Rattle.tacit.specs.contracts.tacit_why_not as why_not_call
 use Rattle.tacit.specs.contracts.tacit_wish_sac as wish-sac
 use Rattle.tacit.specs.contracts.tacit_wanted as is_wanted
-use Rattle.tacit.specs.contracts.tacit_retry_interval as retry_interval_law
+use Rattle.tacit.specs.contracts.tacit_retry_interval as retry_interval_call
 use Rattle.tacit.specs.contracts.tacit_sound as is_sound
 use Rattle.tacit.specs.contracts.tacit_load as loaded
 use Rattle.tacit.specs.contracts.tacit_store as stored
 use Rattle.tacit.specs.contracts.tacit_forward as moved-forward
 use Rattle.tacit.specs.contracts.tacit_back as moved_back
-use Rattle.tacit.specs.contracts.tacit_no_limits as no_limits_law
+use Rattle.tacit.specs.contracts.tacit_no_limits as no_limits_call
 use Rattle.tacit.specs.contracts.tacit_set_limit as set-limit
 use Rattle.tacit.specs.contracts.tacit_kind_total as kind-total
 use Rattle.promises.specs.Words.{Permits}
@@ -98,14 +98,14 @@ pub record CallsAnswer : Type 0 where
       → CreatedIn (created a.1.0) a.0.now r s.0.now
   pub tacit_read : (κs : _) (a r s : _) → Allows read.ended (λ w. read.clauses) (λ w. refl) κs a r s → r ≡ read_area a.0.now
   pub tacit_permitted : (κs : _) (a r s : _) → Allows permitted.ended (λ w. permitted.clauses) (λ w. refl) κs a r s → r ≡ permission (decoded a.0.now) a.1.0
-  pub tacit_permitted_kinds : (κs : _) (a r s : _) → Allows permitted_kinds_law.ended (λ w. permitted_kinds_law.clauses) (λ w. refl) κs a r s → r ≡ permitted_kinds (decoded a.0.now)
-  pub tacit_why_not : (κs : _) (a r s : _) → Allows why_not_law.ended (λ w. why_not_law.clauses) (λ w. refl) κs a r s → r ≡ why_not (decoded a.0.now) a.1.0
+  pub tacit_permitted_kinds : (κs : _) (a r s : _) → Allows permitted_kinds_call.ended (λ w. permitted_kinds_call.clauses) (λ w. refl) κs a r s → r ≡ permitted_kinds (decoded a.0.now)
+  pub tacit_why_not : (κs : _) (a r s : _) → Allows why_not_call.ended (λ w. why_not_call.clauses) (λ w. refl) κs a r s → r ≡ why_not (decoded a.0.now) a.1.0
   -- of a wish, which is an event, the wishes to keep after it
   pub tacit_wish : (κs : _) (a r s : _) → AllowsAll wish.ended (λ w. wish.clauses) (λ w. refl) κs a r s → r.wishes ≡ wishes_by (decoded a.0.now) a.1.0 a.1.1.0 a.1.1.1.0 (length a.1.1.1.1.0.now)
   pub tacit_wish_sac : (κs : _) (a r s : _) → Allows wish-sac.ended (λ w. wish-sac.clauses) (λ w. refl) κs a r s
       → (r ≡ wish_sac a.0 (length a.1.0.now)) × (s.1.0.now ≡ sac_room a.0 a.1.0.now)
   pub tacit_wanted : (a r s : _) → Allows is_wanted.ended (λ w. is_wanted.clauses) (λ w. refl) tt a r s → r ≡ wanted a.0 a.1.0
-  pub tacit_retry_interval : (κs : _) (a r s : _) → Allows retry_interval_law.ended (λ w. retry_interval_law.clauses) (λ w. refl) κs a r s → r ≡ retry_interval (decoded a.0.now)
+  pub tacit_retry_interval : (κs : _) (a r s : _) → Allows retry_interval_call.ended (λ w. retry_interval_call.clauses) (λ w. refl) κs a r s → r ≡ retry_interval (decoded a.0.now)
   pub tacit_sound : (κs : _) (a r s : _) → Allows is_sound.ended (λ w. is_sound.clauses) (λ w. refl) κs a r s → r ≡ sound (decoded a.0.now)
   pub tacit_load : (κs : _) (a r s : _) → Allows loaded.ended (λ w. loaded.clauses) (λ w. refl) κs a r s → r ≡ load a.0.now
   pub tacit_store : (κs : _) (a r s : _) → Allows stored.ended (λ w. stored.clauses) (λ w. refl) κs a r s → (r ≡ store_refusal a.0 a.1.0.now) × (s.1.0.now ≡ store_octets a.0 a.1.0.now)
@@ -113,7 +113,7 @@ pub record CallsAnswer : Type 0 where
       → (r ≡ forward a.0.now a.1.0.now) × (s.1.0.now ≡ forward_room a.0.now a.1.0.now)
   pub tacit_back : (κs : _) (a r s : _) → Allows moved_back.ended (λ w. moved_back.clauses) (λ w. refl) κs a r s
       → (r ≡ back_refusal a.0.now a.1.0.now) × (s.1.0.now ≡ back_room a.0.now a.1.0.now)
-  pub tacit_no_limits : (a r s : _) → Allows no_limits_law.ended (λ w. no_limits_law.clauses) (λ w. refl) tt a r s → r ≡ no_limits
+  pub tacit_no_limits : (a r s : _) → Allows no_limits_call.ended (λ w. no_limits_call.clauses) (λ w. refl) tt a r s → r ≡ no_limits
   pub tacit_set_limit : (a r s : _) → Allows set-limit.ended (λ w. set-limit.clauses) (λ w. refl) tt a r s → r ≡ limited a.0 a.1.0 a.1.1.0
   pub tacit_row_count : (κs : _) (a r s : _) → RowCount κs a r s → r ≡ count_of a.0.now a.1.0
   pub tacit_kind_total : (a r s : _) → Allows kind-total.ended (λ w. kind-total.clauses) (λ w. refl) tt a r s → r ≡ kind_total a.0 a.1.0

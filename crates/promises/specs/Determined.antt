@@ -31,7 +31,7 @@ pub record SetsDetermined : Type 0 where
 
 pub record KindsDetermined : Type 0 where
   pub is_known : Determined (Allows kinds.TaId.is_known.ended (λ w. kinds.TaId.is_known.clauses) (λ w. refl) tt)
-  pub is_in_law : Determined (Allows kinds.TaId.is_in.ended (λ w. kinds.TaId.is_in.clauses) (λ w. refl) tt)
+  pub is_in : Determined (Allows kinds.TaId.is_in.ended (λ w. kinds.TaId.is_in.clauses) (λ w. refl) tt)
   pub switched : Determined (Allows kinds.TaId.switched.ended (λ w. kinds.TaId.switched.clauses) (λ w. refl) tt)
   pub app_is_known : Determined (Allows kinds.SacApp.is_known.ended (λ w. kinds.SacApp.is_known.clauses) (λ w. refl) tt)
   pub app_is_in : Determined (Allows kinds.SacApp.is_in.ended (λ w. kinds.SacApp.is_in.clauses) (λ w. refl) tt)
@@ -48,20 +48,20 @@ pub record KindsDetermined : Type 0 where
 pub record OctetsDetermined : Type 0 where
   pub put : (κs : _) → Determines (Allows octets.put.ended (λ w. octets.put.clauses) (λ w. refl) κs) (λ r s. s.0.now)
   pub put_at : (κs : _) → Determines (Allows octets.put_at.ended (λ w. octets.put_at.clauses) (λ w. refl) κs) (λ r s. s.0.now)
-  pub top_bit_law : Determined (Allows octets.top_bit.ended (λ w. octets.top_bit.clauses) (λ w. refl) tt)
+  pub top_bit : Determined (Allows octets.top_bit.ended (λ w. octets.top_bit.clauses) (λ w. refl) tt)
   pub read16 : (κs : _) → Determined (Allows octets.read16.ended (λ w. octets.read16.clauses) (λ w. refl) κs)
   pub read32 : (κs : _) → Determined (Allows octets.read32.ended (λ w. octets.read32.clauses) (λ w. refl) κs)
 
 pub record AreaDetermined : Type 0 where
   pub at16 : (κs : _) → Determined (AllowsBoth area.at16.ended (λ w. area.at16.clauses) (λ w. refl) κs)
-  pub read_area_law : (κs : _) → Determined (Allows area.read_area.ended (λ w. area.read_area.clauses) (λ w. refl) κs)
+  pub read_area : (κs : _) → Determined (Allows area.read_area.ended (λ w. area.read_area.clauses) (λ w. refl) κs)
   pub part_within : (κs : _) → Determines (Allows area.part_within.ended (λ w. area.part_within.clauses) (λ w. refl) κs) (λ r s. r.now)
   pub part_of : (κs : _) → Determines (Allows area.part_of.ended (λ w. area.part_of.clauses) (λ w. refl) κs) (λ r s. r.now)
-  pub s_bit_law : (κs : _) → Determined (Allows area.s_bit.ended (λ w. area.s_bit.clauses) (λ w. refl) κs)
+  pub s_bit : (κs : _) → Determined (Allows area.s_bit.ended (λ w. area.s_bit.clauses) (λ w. refl) κs)
 
 pub record ListsDetermined : Type 0 where
-  pub tac_list_law : (κs : _) → Determined (Allows lists.tac_list.ended (λ w. lists.tac_list.clauses) (λ w. refl) κs)
-  pub sac_list_law : (κs : _) → Determined (Allows lists.sac_list.ended (λ w. lists.sac_list.clauses) (λ w. refl) κs)
+  pub tac_list : (κs : _) → Determined (Allows lists.tac_list.ended (λ w. lists.tac_list.clauses) (λ w. refl) κs)
+  pub sac_list : (κs : _) → Determined (Allows lists.sac_list.ended (λ w. lists.sac_list.clauses) (λ w. refl) κs)
 
 pub record MessageDetermined : Type 0 where
   pub write : (κs : _) → Determines (Allows message.write.ended (λ w. message.write.clauses) (λ w. refl) κs) (λ r s. s.0.now)
@@ -77,11 +77,11 @@ pub record SessionDetermined : Type 0 where
   pub new : Determined (Allows session.Session.new.ended (λ w. session.Session.new.clauses) (λ w. refl) tt)
   pub sound : Determined (Allows session.Session.sound.ended (λ w. session.Session.sound.clauses) (λ w. refl) tt)
   pub permitted : Determined (Allows session.Session.permitted.ended (λ w. session.Session.permitted.clauses) (λ w. refl) tt)
-  pub permitted_by_base_law : Determined (Allows session.Session.permitted_by_base.ended (λ w. session.Session.permitted_by_base.clauses) (λ w. refl) tt)
-  pub permitted_kinds_law : Determined (Allows session.Session.permitted_kinds.ended (λ w. session.Session.permitted_kinds.clauses) (λ w. refl) tt)
+  pub permitted_by_base : Determined (Allows session.Session.permitted_by_base.ended (λ w. session.Session.permitted_by_base.clauses) (λ w. refl) tt)
+  pub permitted_kinds : Determined (Allows session.Session.permitted_kinds.ended (λ w. session.Session.permitted_kinds.clauses) (λ w. refl) tt)
   pub permission : Determined (Allows session.Session.permission.ended (λ w. session.Session.permission.clauses) (λ w. refl) tt)
-  pub why_not_law : Determined (Allows session.Session.why_not.ended (λ w. session.Session.why_not.clauses) (λ w. refl) tt)
-  pub retry_interval_law : Determined (Allows session.Session.retry_interval.ended (λ w. session.Session.retry_interval.clauses) (λ w. refl) tt)
+  pub why_not : Determined (Allows session.Session.why_not.ended (λ w. session.Session.why_not.clauses) (λ w. refl) tt)
+  pub retry_interval : Determined (Allows session.Session.retry_interval.ended (λ w. session.Session.retry_interval.clauses) (λ w. refl) tt)
   pub initialization_when_sound : (κs : _) → Determined (Allows session.Session.initialization_when_sound.ended (λ w. session.Session.initialization_when_sound.clauses) (λ w. refl) κs)
   pub initialization : (κs : _) → Determined (Allows session.Session.initialization.ended (λ w. session.Session.initialization.clauses) (λ w. refl) κs)
   pub used_when_sound : Determined (Allows session.Session.used_when_sound.ended (λ w. session.Session.used_when_sound.clauses) (λ w. refl) tt)
@@ -99,7 +99,7 @@ pub record SessionDetermined : Type 0 where
   pub none : Determined (Allows session.Session.none.ended (λ w. session.Session.none.clauses) (λ w. refl) tt)
 
 pub record RecordDetermined : Type 0 where
-  pub stored_in_law : (κs : _) → Determines (Allows records.stored_in.ended (λ w. records.stored_in.clauses) (λ w. refl) κs) (λ r s. s.1.0.now)
+  pub stored_in : (κs : _) → Determines (Allows records.stored_in.ended (λ w. records.stored_in.clauses) (λ w. refl) κs) (λ r s. s.1.0.now)
   pub decoded : (κs : _) → Determined (Allows records.decoded.ended (λ w. records.decoded.clauses) (λ w. refl) κs)
   pub carry : (κs : _) → Determines (Allows records.carry.ended (λ w. records.carry.clauses) (λ w. refl) κs) (λ r s. both r s.0.now)
   pub load : (κs : _) → Determined (Allows records.load.ended (λ w. records.load.clauses) (λ w. refl) κs)
@@ -115,13 +115,13 @@ pub record RowDetermined : Type 0 where
   pub applications : Determined (Allows row.Counted.applications.ended (λ w. row.Counted.applications.clauses) (λ w. refl) tt)
   pub kinds : Determined (Allows row.Counted.kinds.ended (λ w. row.Counted.kinds.clauses) (λ w. refl) tt)
   pub counted : Determined (Allows row.EventNumbers.counted.ended (λ w. row.EventNumbers.counted.clauses) (λ w. refl) tt)
-  pub no_limits_law : Determined (Allows row.Limits.none.ended (λ w. row.Limits.none.clauses) (λ w. refl) tt)
+  pub no_limits : Determined (Allows row.Limits.none.ended (λ w. row.Limits.none.clauses) (λ w. refl) tt)
   pub limited : Determined (Allows row.Limits.limited.ended (λ w. row.Limits.limited.clauses) (λ w. refl) tt)
   pub count_by : Determined (Allows row.Tally.count_by.ended (λ w. row.Tally.count_by.clauses) (λ w. refl) tt)
-  pub event_in_law : (κs : _) → Determines (Allows row.event_in.ended (λ w. row.event_in.clauses) (λ w. refl) κs) (λ r s. both r s.1.1.1.1.1.1.0.now)
+  pub event_in : (κs : _) → Determines (Allows row.event_in.ended (λ w. row.event_in.clauses) (λ w. refl) κs) (λ r s. both r s.1.1.1.1.1.1.0.now)
   pub outside : Determined (Allows row.outside.ended (λ w. row.outside.clauses) (λ w. refl) tt)
   pub uncounted : Determined (Allows row.uncounted.ended (λ w. row.uncounted.clauses) (λ w. refl) tt)
-  pub recount_by_law : Determined (Allows row.Tally.recount_by.ended (λ w. row.Tally.recount_by.clauses) (λ w. refl) tt)
+  pub recount_by : Determined (Allows row.Tally.recount_by.ended (λ w. row.Tally.recount_by.clauses) (λ w. refl) tt)
   pub untotalled : Determined (Allows row.untotalled.ended (λ w. row.untotalled.clauses) (λ w. refl) tt)
   pub tally_of : (κs : _) → Determined (TallyOf κs)
 

@@ -99,13 +99,13 @@ losses w (e ∷ es) n = once (lost_by w e n) + losses (row_then w e) es n
 pub record IsFresh (s : Session) : Type 0 where
   pub initiating : Bool
   pub active : Bool
-  pub uses_tac_law : Bool
+  pub uses_tac : Bool
   pub drops : Bool
   pub protects : ℕ
   pub enabled : ℕ
   pub ours : ℕ
   pub first : ℕ
-  pub made : s ≡ fresh (role_flags initiating active uses_tac_law drops) protects enabled ours first
+  pub made : s ≡ fresh (role_flags initiating active uses_tac drops) protects enabled ours first
 
 abbrev pub AllFresh : List Session → Type 0
 AllFresh [] = Unit {0}

@@ -6,7 +6,7 @@ use Rattle.session.specs.declared.Session.{Session}
 use Rattle.session.specs.Session.{is_open, in_force, sound}
 use Rattle.session.specs.Questions.{why_permitted, why_not_open, why_disabled_by_peer, why_not_enabled, why_not_listed, why_not_ours, why_not_theirs, why_not}
 use Rattle.record.specs.Record.{decoded}
-use Rattle.tacit.specs.contracts.tacit_why_not as why_not_law
+use Rattle.tacit.specs.contracts.tacit_why_not as why_not_call
 use Rattle.promises.specs.Words.{Enables, Lists, Maps, Disables, Permits}
 use Rattle.promises.specs.Allowed.{Allows}
 
@@ -60,5 +60,5 @@ pub record WhyNot : Type 0 where
   pub unsound : (s : Session) (k : ℕ) → sound s ≡ false → why_not s k ≡ record { refusal = not_sound; reason = 0 }
   pub no_kind : (s : Session) (k : ℕ) → sound s ≡ true → kind_count ≤ k → why_not s k ≡ record { refusal = out_of_range; reason = 0 }
   pub asked :
-      (κs : _) (a r s : _) → Allows why_not_law.ended (λ w. why_not_law.clauses) (λ w. refl) κs a r s → sound (decoded a.0.now) ≡ true → a.1.0 < kind_count
+      (κs : _) (a r s : _) → Allows why_not_call.ended (λ w. why_not_call.clauses) (λ w. refl) κs a r s → sound (decoded a.0.now) ≡ true → a.1.0 < kind_count
       → (r.refusal ≡ not_refused) × FirstThatHolds (decoded a.0.now) a.1.0 r.reason
