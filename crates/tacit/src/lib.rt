@@ -1,6 +1,6 @@
 #![tactic(auto)]
 // What the label daemon calls. Each function decodes the record that it is lent, lets the session answer, and stores the session after it; none asks
-// anything of its caller. include/tacit.h says the same to C.
+// anything of its caller. `tacit_c` gives each its C name, under the same contract, and include/tacit.h says the same to C.
 ghost use Rattle.std.specs.Prelude.{◌≡◌, length};
 ghost use Rattle.kinds.specs.Kinds.{all_applications};
 ghost use Rattle.area.specs.Area.{read_area};
