@@ -55,7 +55,7 @@ export shown
 build/libtacit.a: $(proved)
 	@command -v rt >/dev/null || { echo "rt, the Rattle toolchain, is not on the PATH: libtacit.a cannot be built without it (see README.md)" >&2; exit 1; }
 	@mkdir -p build
-	@echo "proving the library crate by crate; from nothing this takes some two minutes"
+	@echo "proving the library crate by crate; from nothing this takes some six minutes"
 	@bash -o pipefail -c 'cd crates/tacit_c && rt lib --cpu x86-64 2>&1 | tee ../../build/staticlib.log | awk "$$shown"' || { cat build/staticlib.log >&2; exit 1; }
 	@cp crates/tacit_c/out/libtacit_c.a $@
 
