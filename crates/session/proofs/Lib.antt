@@ -1,4 +1,5 @@
 pub mod SoundMeans
+pub mod SoundByState
 pub mod FlagsRaised
 pub mod Made
 pub mod Shapes

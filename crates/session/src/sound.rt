@@ -79,7 +79,7 @@ impl Session {
     }
 
     // All of them, by the state; once one fails the others are not asked.
-    #[tactic(auto, unfolding(choice::specs::Pick::pick, sets::specs::Set::meets, sets::specs::Set::with, sets::specs::Set::union, crate::specs::Session::sound, crate::specs::Session::force_sound, crate::specs::Session::listed_sound, crate::specs::Session::open_sound, crate::specs::Session::theirs_sound, crate::specs::Session::held_sound, crate::specs::Session::gone_sound))]
+    #[tactic(auto, using(crate::proofs::SoundByState::in_open, crate::proofs::SoundByState::not_in_open, crate::proofs::SoundByState::not_open), unfolding(choice::specs::Pick::pick, crate::specs::Session::sound))]
     pub fn sound(self) -> bool
         ensures { result ≡ sound self }
     {

@@ -1,5 +1,5 @@
--- `Session::sound` meets its contract: the rules go by the state. In Open they are one choice by the force; out of it those of force, list, disabled kinds and
--- the peer's capabilities are one test of the flags and three of emptiness. Assumes nothing.
+-- The rules of soundness by the state, for `Session::sound`, which asks them so. In Open they are one choice by the force; out of it those of force, list, disabled
+-- kinds and the peer's capabilities are one test of the flags and three of emptiness. Assumes nothing.
 use Rattle.std.proofs.Common.{◌≡◌, ℕ, Bool, true, false, not, ◌&&◌, ◌||◌, sym, refl, ap, ◌∙◌, ne_eqb}
 use mathlib.Core.Bool.{not-not, and-true}
 use lib.Dec.{eqb}
@@ -8,7 +8,6 @@ use Rattle.sets.specs.Set.{has, one, common, union, with, empty, meets}
 use Rattle.sets.proofs.Shared.{meets_none, meets_with}
 use Rattle.session.specs.declared.Session.{Session}
 use Rattle.session.specs.Session.{state_open, state_held, state_gone, is_open, uses_tac, in_force, negotiated, dynamic, in_force_bit, dynamic_bit, cleared_out_of_open, spare_zero, force_sound, listed_sound, open_sound, theirs_sound, hello_sound, held_sound, gone_sound, sound}
-use Rattle.session.proofs.Session.sound.Goals as goal
 
 -- what is asked of force and list, where the session is Open and where it is not
 open_rules : (force uses listed : Bool) → pick force uses listed ≡ (only force uses && (unless force listed && true))
@@ -40,26 +39,19 @@ flags_of_open flags =
 is : {state known : ℕ} (asked : ℕ) → state ≡ known → eqb state asked ≡ eqb known asked
 is asked e = ap (λ (n : ℕ). eqb n asked) e
 
-in_open : (s : Session) → spare_zero s ≡ true → hello_sound s ≡ true → s.state ≡ state_open
+pub in_open : (s : Session) → spare_zero s ≡ true → hello_sound s ≡ true → s.state ≡ state_open
     → pick (in_force s) (uses_tac s && not (empty (negotiated s))) (empty s.listed) ≡ sound s
 unfolding sound force_sound listed_sound open_sound theirs_sound held_sound gone_sound
 in_open s spare hello e =
     simp (spare, hello, is state_open e, is state_held e, is state_gone e)
     (open_rules (in_force s) (uses_tac s && not (empty (negotiated s))) (empty s.listed))
 
-not_in_open : (s : Session) → spare_zero s ≡ true → hello_sound s ≡ true → is_open s ≡ false
+pub not_in_open : (s : Session) → spare_zero s ≡ true → hello_sound s ≡ true → is_open s ≡ false
     → pick (empty (common s.flags cleared_out_of_open) && (empty s.listed && (empty s.disabled && empty s.theirs))) (held_sound s && gone_sound s) false ≡ sound s
 unfolding sound force_sound listed_sound open_sound theirs_sound
 not_in_open s spare hello shut =
     simp (spare, hello, shut, flags_of_open s.flags)
     (shut_rules (in_force s) (dynamic s) (empty s.listed) (empty s.disabled) (empty s.theirs) (held_sound s && gone_sound s))
 
-pub returns-then-self-eq-OPEN : goal.returns-then-self-eq-OPEN
-returns-then-self-eq-OPEN c =
-    c.lists_sound.ensures
-    ∙ in_open c.args.self (sym c.spare_zero.ensures ∙ c.if-spare_zero.true) (sym c.hello_sound.ensures ∙ c.if-hello_sound.true) c.if-self-eq-OPEN.true
-
-pub returns-then-hello_sound : goal.returns-then-hello_sound
-returns-then-hello_sound c =
-    c.shut_sound.ensures
-    ∙ not_in_open c.args.self (sym c.spare_zero.ensures ∙ c.if-spare_zero.true) (sym c.hello_sound.ensures ∙ c.if-hello_sound.true) (ne_eqb _ _ c.if-self-eq-OPEN.false)
+pub not_open : (s : Session) → (s.state ≡ state_open → ⊥) → is_open s ≡ false
+not_open s other = ne_eqb _ _ other
