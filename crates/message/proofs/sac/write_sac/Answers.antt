@@ -4,6 +4,7 @@ use mathlib.Core.Path.{◌≡◌, sym, ap}
 use mathlib.Core.Bool.{false}
 use native.Mathlib.Omega.{arith}
 use lib.ListN.{length}
+use borrow.Author.Rules.{rules}
 use borrow.Author.Tests.{ne_eqb}
 use Rattle.sets.specs.Set.{empty}
 use Rattle.kinds.specs.Kinds.{app_count}
@@ -23,13 +24,13 @@ pub returns-then-whole-room : goal.returns-then-whole-room
 unfolding empty
 returns-then-whole-room c =
     let wishes = c.args.wishes in
-    let some = ne_eqb _ _ c.if-wishes-eq0.false in
+    let some : empty wishes ≡ false = search (rules, ne_eqb) in
     (whole_is wishes _ some c.elements_count-n.ensures, rw (sac_one wishes some) c.put_sac.ensures)
 
 pub returns : goal.returns
 unfolding empty
 returns c =
     let wishes = c.args.wishes in
-    let some = ne_eqb _ _ c.if-wishes-eq0.false in
+    let some : empty wishes ≡ false = search (rules, ne_eqb) in
     let whole = whole_is wishes _ some c.elements_count-n.ensures in
     (whole, sym (over_short _ _ (omega (arith, whole))))
