@@ -5,3 +5,4 @@ pub mod Tlvs
 pub mod Examples
 pub mod Slots
 pub mod Told
+pub mod Same

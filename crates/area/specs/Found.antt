@@ -1,9 +1,11 @@
 -- What was found in an area, slot by slot. Assumes nothing.
-use Rattle.std.specs.Prelude.{ℕ, Bool, true, false, ltb}
+use Rattle.std.specs.Prelude.{ℕ, Bool, true, false, ltb, Result}
 use Rattle.sets.specs.Set.{holds, switched}
-use Rattle.refusals.specs.Refusals.{not_refused}
+use Rattle.refusals.specs.declared.Refusal.{Refusal}
+use Rattle.refusals.specs.Refusals.{not_refused, told_as}
 use Rattle.kinds.specs.Kinds.{capability_count}
 use Rattle.area.specs.declared.Span.{Span}
+use Rattle.area.specs.declared.Found.{Found}
 use Rattle.area.specs.declared.Reading.{Reading}
 
 -- "an absent one, and both after a refusal, have no octets"
@@ -13,6 +15,14 @@ none = record { start = 0; len = 0 }
 -- the number refused with, and nothing found
 abbrev pub refused : ℕ → Reading
 refused n = record { refusal = n; dynamic = false; capabilities = 0; holding = 0; tac = none; sac = none }
+
+-- what was found, with nothing refused; and what reading comes to in numbers
+abbrev pub told : Found → Reading
+told f =
+    record { refusal = not_refused; dynamic = f.dynamic; capabilities = f.capabilities; holding = f.holding; tac = f.tac; sac = f.sac }
+
+abbrev pub reading_of : Result Found Refusal → Reading
+reading_of = told_as told refused
 
 -- before the first TLV nothing is refused and nothing is found
 abbrev pub nothing_found : Reading

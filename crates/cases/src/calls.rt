@@ -1,106 +1,261 @@
-// A call as octets: its number, then its arguments; what follows them is the next call.
-ghost use Rattle.std.specs.Prelude.{◌≡◌, ◌≤◌, length, get_or};
+// The calls of an input: each is one octet with its number, and then its arguments; what follows them is the next call.
+ghost use Rattle.std.specs.Prelude.{◌≡◌, ◌≤◌, ◌∷◌, ◌++◌, length, IfSome};
+ghost use Rattle.std.specs.Iterator.{at_most};
 
-use area::Span;
+use row::Limits;
+use session::{Session, Settings};
+use totals::Totals;
 
-// The octet at a place; 0 where there is none.
-pub(crate) fn octet(call: &[u8], at: usize) -> u8
-    ensures { result ≡ get_or call.now at 0 }
+/// A call and its arguments. A room is the length that is asked for.
+#[derive(Clone, Copy)]
+pub(crate) enum Call<'a> {
+    Create(Settings),
+    Initialization(&'a [u8]),
+    Capability(&'a [u8]),
+    LocalChange {
+        ta_id: u32,
+        on: bool,
+        room: u8,
+    },
+    Mismatch,
+    Hello(u32),
+    Closed,
+    Permitted(u32),
+    PermittedKinds,
+    RetryInterval,
+    Sound,
+    Read(&'a [u8]),
+    SetRecord([u8; record::LENGTH]),
+    NoLimits,
+    SetLimit {
+        limits: Limits,
+        ta_id: u32,
+        limit: u32,
+    },
+    Load,
+    Store {
+        session: Session,
+        room: u8,
+    },
+    Wish {
+        wishes: u32,
+        app: u32,
+        disable: bool,
+        room: u8,
+    },
+    WishSac {
+        wishes: u32,
+        room: u8,
+    },
+    Wanted {
+        wishes: u32,
+        kind: u32,
+    },
+    KindTotal {
+        totals: Totals,
+        kind: u32,
+    },
+    Forward(&'a [u8]),
+    Back {
+        room: u8,
+    },
+}
+
+/// A value that is read off the front of octets, numbers least significant octet first.
+trait Argument<'a>: Sized {
+    /// `None` where octets are missing.
+    fn take_from(octets: &mut &'a [u8]) -> Option<Self>
+        ensures rest { length octets.new.now ≤ length octets.old.now };
+}
+
+// The next argument, of the type that is wanted.
+fn take<'a, T: Argument<'a>>(octets: &mut &'a [u8]) -> Option<T>
+    ensures { length octets.new.now ≤ length octets.old.now }
 {
-    if at < call.len() {
-        return call[at];
+    T::take_from(octets)
+}
+
+impl<'a, const N: usize> Argument<'a> for [u8; N] {
+    fn take_from(octets: &mut &'a [u8]) -> Option<[u8; N]>
+        ensures taken { IfSome result (λ taken. octets.old.now ≡ taken ++ octets.new.now) }
+        ensures rest { length octets.new.now ≤ length octets.old.now }
+    {
+        let (array, rest) = octets.split_first_chunk::<N>()?;
+        *octets = rest;
+        Some(*array)
     }
-    0
 }
 
-// Four octets from a place, least significant first; 0 where they are not all there.
-pub(crate) fn number(call: &[u8], at: u16) -> u32 {
-    let four = area::part_of(call, Span { start: at, len: 4 });
-    if four.len() == 4 {
-        return octets::read32(four, 0);
+impl<'a> Argument<'a> for u8 {
+    fn take_from(octets: &mut &'a [u8]) -> Option<u8>
+        ensures taken { IfSome result (λ octet. octets.old.now ≡ octet ∷ octets.new.now) }
+        ensures rest { length octets.new.now ≤ length octets.old.now }
+    {
+        octets.split_off_first().copied()
     }
-    0
 }
 
-// Two octets from a place, least significant first; 0 where they are not all there.
-pub(crate) fn short(call: &[u8], at: u16) -> u16 {
-    let two = area::part_of(call, Span { start: at, len: 2 });
-    if two.len() == 2 {
-        return octets::read16(two, 0);
+// Any octet but 0 is true.
+impl<'a> Argument<'a> for bool {
+    fn take_from(octets: &mut &'a [u8]) -> Option<bool> {
+        Some(u8::take_from(octets)? != 0)
     }
-    0
 }
 
-pub(crate) fn area_of(call: &[u8]) -> &[u8] {
-    let len = short(call, 1);
-    area::part_of(call, Span { start: 3, len })
-}
-
-// How many octets each call has, by its number; one with an area has as many more as its second and third say.
-const LENGTHS: [usize; 24] = [
-    0, // no call
-    22, // create
-    WITH_AREA, // initialization
-    WITH_AREA, // capability
-    7, // local change
-    1, // mismatch
-    5, // hello
-    1, // closed
-    5, // permitted
-    1, // permitted kinds
-    1, // retry interval
-    1, // sound
-    WITH_AREA, // read
-    25, // set the record
-    1, // no limits
-    22, // set a limit
-    1, // load
-    21, // store
-    11, // wish
-    6, // the SAC for an Initialization
-    9, // wanted
-    15, // the total of a kind
-    WITH_AREA, // forward
-    2, // back
-];
-
-const WITH_AREA: usize = 3;
-
-// How many octets a call should have; 0 for none of ours.
-fn whole(call: &[u8]) -> usize {
-    let which = octet(call, 0) as usize;
-    if which < LENGTHS.len() {
-        let n = LENGTHS[which];
-        if n == WITH_AREA {
-            return n + (short(call, 1) as usize);
-        }
-        return n;
+// An impl for each width: `from_le_bytes` is of no trait.
+impl<'a> Argument<'a> for u16 {
+    fn take_from(octets: &mut &'a [u8]) -> Option<u16> {
+        Some(u16::from_le_bytes(take(octets)?))
     }
-    0
 }
 
-// How many octets a call has; 0 where it is none of ours or cut short.
-pub(crate) fn size(call: &[u8]) -> usize
-    ensures { result ≤ length call.now }
+impl<'a> Argument<'a> for u32 {
+    fn take_from(octets: &mut &'a [u8]) -> Option<u32> {
+        Some(u32::from_le_bytes(take(octets)?))
+    }
+}
+
+// An area stands behind its length of two octets.
+impl<'a> Argument<'a> for &'a [u8] {
+    fn take_from(octets: &mut &'a [u8]) -> Option<&'a [u8]> {
+        let length = u16::take_from(octets)?;
+        octets.split_off(..usize::from(length))
+    }
+}
+
+// Roles by their bits, as the input has them; the other bits are not read.
+const INITIATING: u8 = 1;
+
+const ACTIVE: u8 = 2;
+
+const USES_TAC: u8 = 4;
+
+const DROPS: u8 = 8;
+
+impl<'a> Argument<'a> for Settings {
+    fn take_from(octets: &mut &'a [u8]) -> Option<Settings> {
+        let roles = u8::take_from(octets)?;
+        Some(Settings {
+            initiating: roles & INITIATING != 0,
+            active: roles & ACTIVE != 0,
+            uses_tac: roles & USES_TAC != 0,
+            drops: roles & DROPS != 0,
+            protected_kinds: take(octets)?,
+            enabled: take(octets)?,
+            first_number: take(octets)?,
+            wishes: take(octets)?,
+            capabilities: take(octets)?,
+        })
+    }
+}
+
+impl<'a> Argument<'a> for Session {
+    fn take_from(octets: &mut &'a [u8]) -> Option<Session> {
+        Some(Session {
+            state: take(octets)?,
+            flags: take(octets)?,
+            disabled: take(octets)?,
+            enabled: take(octets)?,
+            listed: take(octets)?,
+            protects: take(octets)?,
+            ours: take(octets)?,
+            theirs: take(octets)?,
+            hello: take(octets)?,
+            next: take(octets)?,
+        })
+    }
+}
+
+// Two structs of C's, each over an array of its own.
+impl<'a> Argument<'a> for Limits {
+    fn take_from(octets: &mut &'a [u8]) -> Option<Limits> {
+        Some(Limits {
+            each: take(octets)?,
+        })
+    }
+}
+
+impl<'a> Argument<'a> for Totals {
+    fn take_from(octets: &mut &'a [u8]) -> Option<Totals> {
+        Some(Totals {
+            each: take(octets)?,
+        })
+    }
+}
+
+// The call with this number: `None` where it is none of ours or cut short.
+fn numbered<'a>(number: u8, octets: &mut &'a [u8]) -> Option<Call<'a>>
+    ensures { length octets.new.now ≤ length octets.old.now }
 {
-    let n = whole(call);
-    if call.len() < n {
-        return 0;
-    }
-    n
+    Some(match number {
+        1 => Call::Create(take(octets)?),
+        2 => Call::Initialization(take(octets)?),
+        3 => Call::Capability(take(octets)?),
+        4 => Call::LocalChange {
+            ta_id: take(octets)?,
+            on: take(octets)?,
+            room: take(octets)?,
+        },
+        5 => Call::Mismatch,
+        6 => Call::Hello(take(octets)?),
+        7 => Call::Closed,
+        8 => Call::Permitted(take(octets)?),
+        9 => Call::PermittedKinds,
+        10 => Call::RetryInterval,
+        11 => Call::Sound,
+        12 => Call::Read(take(octets)?),
+        13 => Call::SetRecord(take(octets)?),
+        14 => Call::NoLimits,
+        15 => Call::SetLimit {
+            limits: take(octets)?,
+            ta_id: take(octets)?,
+            limit: take(octets)?,
+        },
+        16 => Call::Load,
+        17 => Call::Store {
+            session: take(octets)?,
+            room: take(octets)?,
+        },
+        18 => Call::Wish {
+            wishes: take(octets)?,
+            app: take(octets)?,
+            disable: take(octets)?,
+            room: take(octets)?,
+        },
+        19 => Call::WishSac {
+            wishes: take(octets)?,
+            room: take(octets)?,
+        },
+        20 => Call::Wanted {
+            wishes: take(octets)?,
+            kind: take(octets)?,
+        },
+        21 => Call::KindTotal {
+            totals: take(octets)?,
+            kind: take(octets)?,
+        },
+        22 => Call::Forward(take(octets)?),
+        23 => Call::Back {
+            room: take(octets)?,
+        },
+        _ => return None,
+    })
 }
 
-// How long the room of a call is: as its last octet asks, up to 40 octets.
-pub(crate) fn room_length(call: &[u8]) -> usize
-    ensures { result ≤ 40 }
-{
-    let n = size(call);
-    if n == 0 {
-        return 0;
+/// The calls of an input, each with its number, up to the first that is none of ours or cut short.
+#[derive(Clone, Copy)]
+pub(crate) struct Calls<'a>(pub &'a [u8]);
+
+impl<'a> Iterator for Calls<'a> {
+    type Item = (u8, Call<'a>);
+
+    ghost remaining = { λ calls. at_most (length calls.0.now) };
+
+    // What is cut short is not taken.
+    fn next(&mut self) -> Option<(u8, Call<'a>)> {
+        let (number, mut rest) = self.0.split_first()?;
+        let call = numbered(*number, &mut rest)?;
+        self.0 = rest;
+        Some((*number, call))
     }
-    let asked = octet(call, n - 1) as usize;
-    if 40 < asked {
-        return 40;
-    }
-    asked
 }

@@ -1,41 +1,45 @@
-// The printed lines: numbers and octets in hexadecimal, a space before each but the first.
+// The words of a printed line: numbers in hexadecimal, a space between two words.
 use area::Span;
 use session::Answer;
-use std::io;
+use std::fmt;
 
-pub(crate) fn number(rt: &impl Print, n: u64) -> io::Result<()> {
-    print!(rt; " {n:x}")
-}
+/// Octets as one word, two digits each; "-" for none.
+#[derive(Clone, Copy)]
+pub(crate) struct Octets<'a>(pub &'a [u8]);
 
-pub(crate) fn answer(rt: &impl Print, a: Answer) -> io::Result<()> {
-    number(rt, a.refusal as u64)?;
-    number(rt, a.outcome as u64)?;
-    number(rt, a.lost as u64)?;
-    number(rt, a.gained as u64)?;
-    number(rt, a.written as u64)
-}
-
-pub(crate) fn part(rt: &impl Print, p: Span) -> io::Result<()> {
-    number(rt, p.start as u64)?;
-    number(rt, p.len as u64)
-}
-
-fn two_digits(rt: &impl Print, octet: u8) -> io::Result<()> {
-    print!(rt; "{octet:02x}")
-}
-
-fn digits(rt: &impl Print, octets: &[u8]) -> io::Result<()> {
-    for octet in octets {
-        two_digits(rt, *octet)?;
+impl fmt::Display for Octets<'_> {
+    fn fmt<W: fmt::Write>(&self, f: &mut fmt::Formatter<W>) -> fmt::Result {
+        if self.0.is_empty() {
+            return f.write_str("-");
+        }
+        for octet in self.0 {
+            write!(f, "{octet:02x}")?;
+        }
+        Ok(())
     }
-    Ok(())
 }
 
-// Octets as one word, two digits each; "-" for none.
-pub(crate) fn octets(rt: &impl Print, octets: &[u8]) -> io::Result<()> {
-    print!(rt; " ")?;
-    if octets.is_empty() {
-        return print!(rt; "-");
+/// What an event answers.
+#[derive(Clone, Copy)]
+pub(crate) struct Told(pub Answer);
+
+impl fmt::Display for Told {
+    fn fmt<W: fmt::Write>(&self, f: &mut fmt::Formatter<W>) -> fmt::Result {
+        let a = self.0;
+        write!(
+            f,
+            "{:x} {:x} {:x} {:x} {:x}",
+            a.refusal, a.outcome, a.lost, a.gained, a.written
+        )
     }
-    digits(rt, octets)
+}
+
+/// A part of an area: where it starts, and its length.
+#[derive(Clone, Copy)]
+pub(crate) struct Part(pub Span);
+
+impl fmt::Display for Part {
+    fn fmt<W: fmt::Write>(&self, f: &mut fmt::Formatter<W>) -> fmt::Result {
+        write!(f, "{:x} {:x}", self.0.start, self.0.len)
+    }
 }

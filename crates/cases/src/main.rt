@@ -3,6 +3,7 @@
 // and how it is printed.
 ghost use Rattle.std.specs.Prelude.{◌≤◌, IfOk, length};
 
+use calls::Calls;
 use std::io::{self, Read};
 
 mod calls;
@@ -10,16 +11,11 @@ mod lines;
 mod play;
 
 // One call after another, up to the first that is none of ours or cut short.
-fn replay(rt: &impl Print, lent: &mut [u8], input: &[u8]) -> io::Result<()> {
-    let mut at = 0;
-    while at < input.len() {
-        let call = &input[at..];
-        let size = calls::size(call);
-        if size == 0 {
-            return Ok(());
-        }
+fn replay(rt: &impl Print, lent: &mut [u8; record::LENGTH], input: &[u8]) -> io::Result<()> {
+    for (number, call) in Calls(input) {
+        print!(rt; "{number:x} ")?;
         play::one(rt, lent, call)?;
-        at += size;
+        println!(rt)?;
     }
     Ok(())
 }
@@ -28,17 +24,19 @@ fn replay(rt: &impl Print, lent: &mut [u8], input: &[u8]) -> io::Result<()> {
 fn read_full<R: Read>(from: &mut R, buffer: &mut [u8]) -> io::Result<usize>
     ensures { IfOk result (λ n. n ≤ length buffer.new) }
 {
-    let mut done = 0;
-    for _ in 0..u64::MAX {
-        let n = from.read(&mut buffer[done..])?;
+    let length = buffer.len();
+    let mut rest = buffer;
+    while !rest.is_empty() {
+        let n = from.read(rest)?;
         if n == 0 {
             break;
         }
-        done += n;
+        rest = &mut rest[n..];
     }
-    Ok(done)
+    Ok(length - rest.len())
 }
 
+// Memory is fixed: what lies beyond the input's buffer is not read.
 fn main(rt: HostRuntime) -> io::Result<()> {
     let mut input = [0u8; 32768];
     let mut lent = [0u8; record::LENGTH];

@@ -1,245 +1,151 @@
-// Each call, made as C makes it, and its line.
-use crate::{calls, lines};
-use row::Limits;
-use session::{Answer, Session, Settings};
+// Each call, made as C makes it, and the words that follow its number in its line.
+ghost use Rattle.std.specs.Prelude.{◌≤◌};
+
+use crate::calls::Call;
+use crate::lines::{Octets, Part, Told};
+use area::Reading;
+use session::{Answer, Session};
 use std::io;
-use totals::Totals;
 
-fn create(rt: &impl Print, lent: &mut [u8], call: &[u8]) -> io::Result<()> {
-    let roles = calls::octet(call, 1) as u16;
-    let settings = Settings {
-        initiating: sets::has(roles, 0),
-        active: sets::has(roles, 1),
-        uses_tac: sets::has(roles, 2),
-        drops: sets::has(roles, 3),
-        protected_kinds: calls::number(call, 2),
-        enabled: calls::number(call, 6),
-        first_number: calls::number(call, 10),
-        wishes: calls::number(call, 14),
-        capabilities: calls::number(call, 18),
-    };
-    let refusal = tacit::tacit_create(lent, settings);
-    lines::number(rt, refusal as u64)?;
-    lines::octets(rt, lent)
+// Memory is fixed: no room has more octets.
+const MOST_ROOM: usize = 40;
+
+// How long the room of a call is: as it asks, up to the most.
+fn room_length(asked: u8) -> usize
+    ensures { result ≤ 40 }
+{
+    usize::from(asked).min(MOST_ROOM)
 }
 
-// What an event that lends no room answers.
-fn answer(lent: &mut [u8], which: u8, call: &[u8]) -> Answer {
-    match which {
-        2 => tacit::tacit_initialization(lent, calls::area_of(call)),
-        3 => tacit::tacit_capability(lent, calls::area_of(call)),
-        5 => tacit::tacit_mismatch(lent),
-        6 => tacit::tacit_hello(lent, calls::number(call, 1)),
-        _ => tacit::tacit_closed(lent),
-    }
+// An event that lends no room.
+fn event(rt: &impl Print, answer: Answer, lent: &[u8]) -> io::Result<()> {
+    print!(rt; "{} {}", Told(answer), Octets(lent))
 }
 
-fn event(rt: &impl Print, lent: &mut [u8], which: u8, call: &[u8]) -> io::Result<()> {
-    lines::answer(rt, answer(lent, which, call))?;
-    lines::octets(rt, lent)
+fn read(rt: &impl Print, r: Reading) -> io::Result<()> {
+    print!(rt;
+        "{:x} {:x} {:x} {:x} {} {}",
+        r.refusal,
+        u8::from(r.dynamic),
+        r.capabilities,
+        r.holding,
+        Part(r.tac),
+        Part(r.sac)
+    )
 }
 
-fn local_change(rt: &impl Print, room: &mut [u8], lent: &mut [u8], call: &[u8]) -> io::Result<()> {
-    let ta_id = calls::number(call, 1);
-    let on = calls::octet(call, 5) != 0;
-    lines::answer(rt, tacit::tacit_local_change(lent, ta_id, on, room))?;
-    lines::octets(rt, lent)?;
-    lines::octets(rt, room)
+fn loaded(rt: &impl Print, refusal: u8, s: Session) -> io::Result<()> {
+    print!(rt;
+        "{refusal:x} {:x} {:x} {:x} {:x} {:x} {:x} {:x} {:x} {:x} {:x}",
+        s.state,
+        s.flags,
+        s.disabled,
+        s.enabled,
+        s.listed,
+        s.protects,
+        s.ours,
+        s.theirs,
+        s.hello,
+        s.next
+    )
 }
 
-fn wish(rt: &impl Print, room: &mut [u8], lent: &mut [u8], call: &[u8]) -> io::Result<()> {
-    let wishes = calls::number(call, 1);
-    let disable = calls::octet(call, 9) != 0;
-    let after = tacit::tacit_wish(lent, wishes, calls::number(call, 5), disable, room);
-    lines::answer(rt, after.answer)?;
-    lines::number(rt, after.wishes as u64)?;
-    lines::octets(rt, lent)?;
-    lines::octets(rt, room)
-}
-
-fn wish_sac(rt: &impl Print, room: &mut [u8], call: &[u8]) -> io::Result<()> {
-    let w = tacit::tacit_wish_sac(calls::number(call, 1), room);
-    lines::number(rt, w.refusal as u64)?;
-    lines::number(rt, w.written as u64)?;
-    lines::octets(rt, room)
-}
-
-fn wanted(rt: &impl Print, call: &[u8]) -> io::Result<()> {
-    let w = tacit::tacit_wanted(calls::number(call, 1), calls::number(call, 5));
-    lines::number(rt, w.refusal as u64)?;
-    lines::number(rt, w.wanted as u64)
-}
-
-// The record is the room that the octets of the call are moved into.
-fn forward(rt: &impl Print, lent: &mut [u8], call: &[u8]) -> io::Result<()> {
-    let moved = tacit::tacit_forward(calls::area_of(call), lent);
-    lines::number(rt, moved.refusal as u64)?;
-    lines::number(rt, moved.lost as u64)?;
-    lines::octets(rt, lent)
-}
-
-fn back(rt: &impl Print, room: &mut [u8], lent: &[u8]) -> io::Result<()> {
-    lines::number(rt, tacit::tacit_back(lent, room) as u64)?;
-    lines::octets(rt, room)
-}
-
-fn permitted(rt: &impl Print, lent: &[u8], call: &[u8]) -> io::Result<()> {
-    let p = tacit::tacit_permitted(lent, calls::number(call, 1));
-    lines::number(rt, p.refusal as u64)?;
-    lines::number(rt, p.permitted as u64)
-}
-
-fn permitted_kinds(rt: &impl Print, lent: &[u8]) -> io::Result<()> {
-    let k = tacit::tacit_permitted_kinds(lent);
-    lines::number(rt, k.refusal as u64)?;
-    lines::number(rt, k.kinds as u64)
-}
-
-fn retry_interval(rt: &impl Print, lent: &[u8]) -> io::Result<()> {
-    let r = tacit::tacit_retry_interval(lent);
-    lines::number(rt, r.refusal as u64)?;
-    lines::number(rt, r.interval as u64)
-}
-
-fn read(rt: &impl Print, call: &[u8]) -> io::Result<()> {
-    let r = tacit::tacit_read(calls::area_of(call));
-    let tac = r.tac;
-    let sac = r.sac;
-    lines::number(rt, r.refusal as u64)?;
-    lines::number(rt, r.dynamic as u64)?;
-    lines::number(rt, r.capabilities as u64)?;
-    lines::number(rt, r.holding as u64)?;
-    lines::part(rt, tac)?;
-    lines::part(rt, sac)
-}
-
-// The record gives way to the octets of the call.
-fn replace(rt: &impl Print, lent: &mut [u8], call: &[u8]) -> io::Result<()> {
-    octets::put(
-        lent,
-        area::part_of(
-            call,
-            area::Span {
-                start: 1,
-                len: record::LENGTH as u16,
-            },
-        ),
-    );
-    lines::octets(rt, lent)
-}
-
-fn limits(rt: &impl Print, l: Limits) -> io::Result<()> {
-    let each = l.each;
-    lines::octets(rt, &each)
-}
-
-fn set_limit(rt: &impl Print, call: &[u8]) -> io::Result<()> {
-    let mut each = [0u8; 13];
-    octets::put(
-        &mut each,
-        area::part_of(call, area::Span { start: 1, len: 13 }),
-    );
-    let after = tacit::tacit_set_limit(
-        Limits { each },
-        calls::number(call, 14),
-        calls::number(call, 18),
-    );
-    lines::number(rt, after.refusal as u64)?;
-    limits(rt, after.limits)
-}
-
-fn kind_total(rt: &impl Print, call: &[u8]) -> io::Result<()> {
-    let mut each = [0u8; 10];
-    octets::put(
-        &mut each,
-        area::part_of(call, area::Span { start: 1, len: 10 }),
-    );
-    let t = tacit::tacit_kind_total(Totals { each }, calls::number(call, 11));
-    lines::number(rt, t.refusal as u64)?;
-    lines::number(rt, t.total as u64)
-}
-
-fn load(rt: &impl Print, lent: &[u8]) -> io::Result<()> {
-    let l = tacit::tacit_load(lent);
-    let s = l.session;
-    lines::number(rt, l.refusal as u64)?;
-    lines::number(rt, s.state as u64)?;
-    lines::number(rt, s.flags as u64)?;
-    lines::number(rt, s.disabled as u64)?;
-    lines::number(rt, s.enabled as u64)?;
-    lines::number(rt, s.listed as u64)?;
-    lines::number(rt, s.protects as u64)?;
-    lines::number(rt, s.ours as u64)?;
-    lines::number(rt, s.theirs as u64)?;
-    lines::number(rt, s.hello as u64)?;
-    lines::number(rt, s.next as u64)
-}
-
-// The session comes by its fields.
-fn store(rt: &impl Print, room: &mut [u8], call: &[u8]) -> io::Result<()> {
-    let session = Session {
-        state: calls::octet(call, 1),
-        flags: calls::octet(call, 2),
-        disabled: calls::octet(call, 3),
-        enabled: calls::short(call, 4),
-        listed: calls::short(call, 6),
-        protects: calls::short(call, 8),
-        ours: calls::octet(call, 10),
-        theirs: calls::octet(call, 11),
-        hello: calls::number(call, 12),
-        next: calls::number(call, 16),
-    };
-    lines::number(rt, tacit::tacit_store(session, room) as u64)?;
-    lines::octets(rt, room)
-}
-
-// A call that lends a room.
-fn in_room(
+/// Plays one call over the record.
+pub(crate) fn one(
     rt: &impl Print,
-    room: &mut [u8],
-    lent: &mut [u8],
-    which: u8,
-    call: &[u8],
+    lent: &mut [u8; record::LENGTH],
+    call: Call<'_>,
 ) -> io::Result<()> {
-    match which {
-        4 => local_change(rt, room, lent, call),
-        17 => store(rt, room, call),
-        18 => wish(rt, room, lent, call),
-        23 => back(rt, room, lent),
-        _ => wish_sac(rt, room, call),
+    let mut octets = [0xEE; MOST_ROOM];
+    match call {
+        Call::Create(settings) => {
+            let refusal = tacit::tacit_create(lent, settings);
+            print!(rt; "{refusal:x} {}", Octets(lent))
+        }
+        Call::Initialization(area) => event(rt, tacit::tacit_initialization(lent, area), lent),
+        Call::Capability(area) => event(rt, tacit::tacit_capability(lent, area), lent),
+        Call::LocalChange { ta_id, on, room } => {
+            let room = &mut octets[..room_length(room)];
+            let answer = tacit::tacit_local_change(lent, ta_id, on, room);
+            print!(rt; "{} {} {}", Told(answer), Octets(lent), Octets(room))
+        }
+        Call::Mismatch => event(rt, tacit::tacit_mismatch(lent), lent),
+        Call::Hello(number) => event(rt, tacit::tacit_hello(lent, number), lent),
+        Call::Closed => event(rt, tacit::tacit_closed(lent), lent),
+        Call::Permitted(kind) => {
+            let p = tacit::tacit_permitted(lent, kind);
+            print!(rt; "{:x} {:x}", p.refusal, p.permitted)
+        }
+        Call::PermittedKinds => {
+            let k = tacit::tacit_permitted_kinds(lent);
+            print!(rt; "{:x} {:x}", k.refusal, k.kinds)
+        }
+        Call::RetryInterval => {
+            let r = tacit::tacit_retry_interval(lent);
+            print!(rt; "{:x} {:x}", r.refusal, r.interval)
+        }
+        Call::Sound => print!(rt; "{:x}", u8::from(tacit::tacit_sound(lent))),
+        Call::Read(area) => read(rt, tacit::tacit_read(area)),
+        Call::SetRecord(record) => {
+            *lent = record;
+            print!(rt; "{}", Octets(lent))
+        }
+        Call::NoLimits => print!(rt; "{}", Octets(&tacit::tacit_no_limits().each)),
+        Call::SetLimit {
+            limits,
+            ta_id,
+            limit,
+        } => {
+            let after = tacit::tacit_set_limit(limits, ta_id, limit);
+            print!(rt; "{:x} {}", after.refusal, Octets(&after.limits.each))
+        }
+        Call::Load => {
+            let l = tacit::tacit_load(lent);
+            loaded(rt, l.refusal, l.session)
+        }
+        Call::Store { session, room } => {
+            let room = &mut octets[..room_length(room)];
+            let refusal = tacit::tacit_store(session, room);
+            print!(rt; "{refusal:x} {}", Octets(room))
+        }
+        Call::Wish {
+            wishes,
+            app,
+            disable,
+            room,
+        } => {
+            let room = &mut octets[..room_length(room)];
+            let after = tacit::tacit_wish(lent, wishes, app, disable, room);
+            print!(rt;
+                "{} {:x} {} {}",
+                Told(after.answer),
+                after.wishes,
+                Octets(lent),
+                Octets(room)
+            )
+        }
+        Call::WishSac { wishes, room } => {
+            let room = &mut octets[..room_length(room)];
+            let w = tacit::tacit_wish_sac(wishes, room);
+            print!(rt; "{:x} {:x} {}", w.refusal, w.written, Octets(room))
+        }
+        Call::Wanted { wishes, kind } => {
+            let w = tacit::tacit_wanted(wishes, kind);
+            print!(rt; "{:x} {:x}", w.refusal, w.wanted)
+        }
+        Call::KindTotal { totals, kind } => {
+            let t = tacit::tacit_kind_total(totals, kind);
+            print!(rt; "{:x} {:x}", t.refusal, t.total)
+        }
+        // The record is the room that the octets of the call are moved into.
+        Call::Forward(kind1) => {
+            let moved = tacit::tacit_forward(kind1, lent);
+            print!(rt; "{:x} {:x} {}", moved.refusal, moved.lost, Octets(lent))
+        }
+        Call::Back { room } => {
+            let room = &mut octets[..room_length(room)];
+            let refusal = tacit::tacit_back(lent, room);
+            print!(rt; "{refusal:x} {}", Octets(room))
+        }
     }
-}
-
-fn with_room(rt: &impl Print, lent: &mut [u8], which: u8, call: &[u8]) -> io::Result<()> {
-    let mut room = [0xEEu8; 40];
-    let n = calls::room_length(call);
-    in_room(rt, &mut room[..n], lent, which, call)
-}
-
-fn by_number(rt: &impl Print, lent: &mut [u8], which: u8, call: &[u8]) -> io::Result<()> {
-    match which {
-        1 => create(rt, lent, call),
-        4 | 17 | 18 | 19 | 23 => with_room(rt, lent, which, call),
-        8 => permitted(rt, lent, call),
-        9 => permitted_kinds(rt, lent),
-        10 => retry_interval(rt, lent),
-        11 => lines::number(rt, tacit::tacit_sound(lent) as u64),
-        12 => read(rt, call),
-        13 => replace(rt, lent, call),
-        14 => limits(rt, tacit::tacit_no_limits()),
-        15 => set_limit(rt, call),
-        16 => load(rt, lent),
-        20 => wanted(rt, call),
-        21 => kind_total(rt, call),
-        22 => forward(rt, lent, call),
-        _ => event(rt, lent, which, call),
-    }
-}
-
-// One call and its line.
-pub(crate) fn one(rt: &impl Print, lent: &mut [u8], call: &[u8]) -> io::Result<()> {
-    let which = calls::octet(call, 0);
-    print!(rt; "{which:x}")?;
-    by_number(rt, lent, which, call)?;
-    println!(rt)
 }

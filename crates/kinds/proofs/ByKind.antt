@@ -1,21 +1,21 @@
 -- Asked by kind: the members of a set stand for a kind exactly where the set meets the one of that kind. So one kind is one test, and the set of kinds is
 -- made kind by kind. From the layouts' agreement, by members. Assumes nothing.
-use mathlib.Core.Path.{◌≡◌, sym, ap, ap₂, ◌∙◌}
+use mathlib.Core.Path.{◌≡◌, sym, ap, ◌∙◌}
 use mathlib.Core.List.{List}
-use mathlib.Core.Bool.{Bool, true, ◌&&◌, ◌||◌, or-false, and-true, and-false}
+use mathlib.Core.Bool.{Bool, true, false, ◌&&◌, ◌||◌, or-false, and-true, and-false}
 use Prim.Native.Nat.{ℕ, ◌+◌, ◌-◌, ◌^◌, ◌<◌, ◌≤◌}
 use native.Mathlib.Nat.{le_refl}
 use native.Mathlib.Decide.{dec_lt}
 use native.Mathlib.Omega.{arith}
 use lib.ListN.{get_or, length, get_or-eq_default}
 use Rattle.choice.specs.Pick.{pick}
-use Rattle.choice.proofs.Branch.{by_test}
+use Rattle.choice.proofs.Branch.{by_test, taken, left}
 use Rattle.choice.proofs.Tests.{same_test}
-use Rattle.sets.specs.Set.{has, union, meets, numbered, switched, chosen}
-use Rattle.sets.proofs.Members.{has_pick, has_union, has_above, has_lt}
+use Rattle.sets.specs.Set.{has, union, meets, numbered, chosen}
+use Rattle.sets.proofs.Members.{union_none, has_pick, has_union, has_above, has_lt}
 use Rattle.sets.proofs.Subsets.{same_members}
 use Rattle.sets.proofs.Switches.{is_numbered}
-use Rattle.sets.proofs.Chosen.{chosen_has, chosen_lt, chosen_more}
+use Rattle.sets.proofs.Chosen.{chosen_has, chosen_lt}
 use Rattle.sets.proofs.Shared.{Shared, meets_shared, shared_meets, meets_none, meets_with}
 use Rattle.kinds.specs.Kinds.{application_count, kind_count, app_count, is_in, session_protection, gather, opens, controlled, opened, disables, Some}
 use Rattle.kinds.specs.ByKind.{openers_always, openers, controllers, stand_for, kinds_by}
@@ -59,16 +59,6 @@ unfolding disables
 disables_meets apps k = gather_meets controlled app_count (controllers k) k (controllers_lt k) (λ n. app_layouts_agree n k) apps
 
 -- ---- every kind
--- one kind more
-pub kinds_next : (table : List ℕ) (members i : ℕ) {kinds set next : ℕ} {on : Bool} → kinds ≡ chosen kind_count (stand_for table members) i
-    → set ≡ get_or table i 0 → on ≡ meets members set → next ≡ switched kind_count kinds (i + 1) on
-    → next ≡ chosen kind_count (stand_for table members) (i + 1)
-kinds_next table members i {set} k s o n =
-    let place : i + 1 - 1 ≡ i = omega arith in
-    n
-    ∙ ap₂ (λ (x : ℕ) (b : Bool). switched kind_count x (i + 1) b) k (o ∙ ap (meets members) (s ∙ sym (ap (λ (j : ℕ). get_or table j 0) place)))
-    ∙ sym (chosen_more kind_count (stand_for table members) i)
-
 has_kinds_by : (table : List ℕ) → length table ≤ kind_count → (members k : ℕ) → has (kinds_by table members) k ≡ meets members (get_or table k 0)
 unfolding kinds_by
 has_kinds_by table short members k = go (dec_lt k kind_count)
@@ -106,9 +96,15 @@ module _ (protects applications : ℕ) where
       also : {x y : Bool} → x ≡ y → meets applications (openers_always k) || x ≡ meets applications (openers_always k) || y
       also h = ap (λ (b : Bool). meets applications (openers_always k) || b) h
 
-  pub opened_by_kind : union (kinds_by openers_sets applications) protected ≡ opened protects applications
+  opened_by_kind : union (kinds_by openers_sets applications) protected ≡ opened protects applications
   opened_by_kind =
       same_members _ _ (λ k.
       has_union (kinds_by openers_sets applications) protected k
       ∙ ap (λ (b : Bool). b || has protected k) (has_kinds_by openers_sets (le_refl kind_count) applications k ∙ ap (meets applications) (openers_at k))
       ∙ sym (meets_openers k) ∙ sym (opened_meets protects applications k))
+
+  pub opened_protected : has applications (session_protection - 1) ≡ true → union (kinds_by openers_sets applications) protects ≡ opened protects applications
+  opened_protected h = ap (union (kinds_by openers_sets applications)) (sym (taken protects 0 h)) ∙ opened_by_kind
+
+  pub opened_unprotected : has applications (session_protection - 1) ≡ false → kinds_by openers_sets applications ≡ opened protects applications
+  opened_unprotected h = sym (union_none _) ∙ ap (union (kinds_by openers_sets applications)) (sym (left protects 0 h)) ∙ opened_by_kind

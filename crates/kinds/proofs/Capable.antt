@@ -5,11 +5,13 @@ use mathlib.Core.Bool.{Bool, true, false, not, ◌&&◌, true≢false}
 use mathlib.Core.List.{List, [], ◌∷◌}
 use Prim.Native.Nat.{ℕ, zero, suc, ◌-◌, ◌^◌, ◌<◌, ◌≤◌}
 use native.Mathlib.Omega.{arith}
+use lib.Dec.{lit<}
 use lib.ListN.{get_or}
 use Rattle.choice.specs.Pick.{pick}
 use Rattle.choice.proofs.Tests.{holds_if, fails_if, not_false}
 use Rattle.sets.specs.Set.{has, common, union, minus, with, numbered, Within}
 use Rattle.sets.proofs.Members.{has_common, has_minus, has_all}
+use Rattle.sets.proofs.Bounds.{common_lt}
 use Rattle.sets.proofs.Subsets.{within_less, same_members}
 use Rattle.kinds.specs.Kinds.{capability_count, all_capabilities, set_of, needed, gather, barred, Some, Lacking}
 use Rattle.kinds.proofs.Gathered.{gather_some, some_gather, gather_within}
@@ -78,7 +80,7 @@ known_lacked held =
     go true y = refl
     go false y = refl
 
-pub barred_known : (held : ℕ) → barred (common all_capabilities held) ≡ barred held
+barred_known : (held : ℕ) → barred (common all_capabilities held) ≡ barred held
 unfolding barred
 barred_known held = ap (gather needed capability_count) (known_lacked held)
 
@@ -97,6 +99,13 @@ barred_at (suc (suc (suc (suc (suc zero))))) h = refl
 barred_at (suc (suc (suc (suc (suc (suc zero)))))) h = refl
 barred_at (suc (suc (suc (suc (suc (suc (suc zero))))))) h = refl
 barred_at (suc (suc (suc (suc (suc (suc (suc (suc n)))))))) h = absurd (omega arith)
+
+-- the capabilities of a set are one of the eight, and bar what the set bars
+pub known_lt : (held : ℕ) → common all_capabilities held < 2 ^ capability_count
+known_lt held = common_lt capability_count all_capabilities held (lit< tt)
+
+pub known_bar : (held : ℕ) → get_or barred_sets (common all_capabilities held) 0 ≡ barred held
+known_bar held = barred_at _ (known_lt held) ∙ barred_known held
 
 -- all capabilities bar nothing
 pub barred_none : barred all_capabilities ≡ 0

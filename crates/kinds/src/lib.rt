@@ -1,27 +1,38 @@
+//! Applications and kinds: the kinds that targeted applications open, those that SAC Apps control, and those that need a capability.
+//!
+//! A set has the application, the App or the capability `n` at bit `n - 1`, and the kind `k` at bit `k`.
 #![tactic(auto)]
-// Applications and kinds: the kinds that targeted applications open, those that SAC Apps control, and those that need a capability.
+
 ghost use Rattle.std.specs.Prelude.{◌≡◌, get_or};
-ghost use Rattle.sets.specs.Set.{has, holds, switched};
-ghost use Rattle.kinds.specs.Kinds.{application_count, app_count, known_application, is_in, known_app, capability_count, opened, disables, barred};
+ghost use Rattle.std.proofs.Common.{rules};
+ghost use Rattle.sets.specs.Set.{has};
+ghost use Rattle.kinds.specs.Kinds.{application_count, app_count, capability_count, opened, disables, barred};
 ghost use Rattle.kinds.specs.ByKind.{openers, kinds_by};
 
-// A targeted application by its number, as TAC has it.
+use sets::Numbered;
+
+// Here and below: tuple structs over the number, the buyer's form (docs/DECISIONS.md, "Which forms 01 asks for"), and a number that was read may be any.
+/// A targeted application by its number, as the TAC has it. [`Numbered`] says which are known.
 #[derive(Clone, Copy)]
 pub struct TaId(pub u32);
 
-// A SAC application by its number. The same number means another thing than in a TaId.
+/// A SAC application by its number. The same number means another thing than in a [`TaId`].
 #[derive(Clone, Copy)]
 pub struct SacApp(pub u32);
 
-// A capability that kinds need, by its number: 1 P2MP, 2 MP2MP, 3 HSMP.
+/// A capability that kinds need, by its number: 1 P2MP, 2 MP2MP, 3 HSMP.
+// Not an enum: `is_in` and `switched` are public and answer for each number, 0 and those above 3 too.
 #[derive(Clone, Copy)]
 pub struct Capability(pub u32);
 
-// How many kinds there are, and the set of all of them, kind k at bit k.
+// No enum: C hands in numbers, and `opens_kind`, `disables_kind` and `bars_kind` answer for each, those above 9 too.
+/// How many kinds there are. They are numbered from 0 on.
 pub const KIND_COUNT: u32 = 10;
 
+/// The set of all kinds.
 pub const ALL_KINDS: u16 = (1 << KIND_COUNT) - 1;
 
+// Arrays by number and no maps: memory is fixed, and each number has a place.
 // A table has a set of applications or of Apps for each kind, from kind 0 on. In it the number n stands at bit n - 1.
 const KINDS: usize = KIND_COUNT as usize;
 
@@ -71,103 +82,85 @@ const BARRED: [u16; Capability::SETS] = [
 ];
 
 impl TaId {
-    pub const COUNT: u32 = 13;
-
-    // The set of all of them, TA-Id n at bit n - 1.
-    pub const ALL: u16 = (1 << Self::COUNT) - 1;
+    /// The set of all of them.
+    pub const ALL: u16 = (1 << <TaId as Numbered>::COUNT) - 1;
 
     // Session Protection's place in a set.
     const SESSION_PROTECTION_BIT: u16 = 8 - 1;
 
     const SESSION_PROTECTION: u16 = 1 << Self::SESSION_PROTECTION_BIT;
-
-    pub fn is_known(self) -> bool
-        ensures { result ≡ known_application self.0 }
-    {
-        sets::numbered(Self::COUNT, self.0)
-    }
-
-    // Whether the application is in the set; an unknown one is in none.
-    #[tactic(auto, unfolding(choice::specs::Pick::pick, crate::specs::Kinds::is_in))]
-    pub fn is_in(self, applications: u16) -> bool
-        ensures { result ≡ is_in applications self.0 }
-    {
-        sets::holds(Self::COUNT, applications, self.0)
-    }
-
-    // The set of applications with this one switched on or off; an unknown one changes nothing.
-    #[tactic(auto, using(sets::proofs::Switches::switched_lt), unfolding(choice::specs::Pick::pick))]
-    pub fn switched(self, applications: u16, on: bool) -> u16
-        ensures { result ≡ switched application_count applications self.0 on }
-    {
-        sets::switched(Self::COUNT, applications, self.0, on)
-    }
 }
 
-impl SacApp {
-    pub const COUNT: u32 = 4;
+// `number` by hand for each type: no impl is written by a macro or a derive of our own.
+impl Numbered for TaId {
+    type Set = u16;
 
-    pub fn is_known(self) -> bool
-        ensures { result ≡ known_app self.0 }
-    {
-        sets::numbered(Self::COUNT, self.0)
+    ghost COUNT = { application_count };
+
+    const COUNT: u32 = 13;
+
+    ghost number = { λ t. t.0 };
+
+    fn number(self) -> u32 {
+        self.0
     }
 
-    // Whether the App is in the set; an unknown one is in none.
-    pub fn is_in(self, apps: u8) -> bool
-        ensures { result ≡ holds app_count apps self.0 }
-    {
-        sets::holds(Self::COUNT, apps as u16, self.0)
+    ghost fits = { Prim.search rules };
+}
+
+impl Numbered for SacApp {
+    type Set = u8;
+
+    ghost COUNT = { app_count };
+
+    const COUNT: u32 = 4;
+
+    ghost number = { λ a. a.0 };
+
+    fn number(self) -> u32 {
+        self.0
     }
 
-    // The set of Apps with this one switched on or off; an unknown one changes nothing.
-    #[tactic(auto, using(sets::proofs::Switches::switched_lt), unfolding(choice::specs::Pick::pick))]
-    pub fn switched(self, apps: u8, on: bool) -> u8
-        ensures { result ≡ switched app_count apps self.0 on }
-    {
-        sets::switched(Self::COUNT, apps as u16, self.0, on) as u8
-    }
+    ghost fits = { Prim.search rules };
 }
 
 impl Capability {
+    /// Point-to-multipoint LSPs (RFC 6388).
     pub const P2MP: u32 = 1;
 
+    /// Multipoint-to-multipoint LSPs (RFC 6388).
     pub const MP2MP: u32 = 2;
 
+    /// Hub-and-spoke multipoint LSPs (RFC 7140).
     pub const HSMP: u32 = 3;
 
-    pub const COUNT: u32 = 3;
-
-    // How many sets of them there are, and the set of all of them, capability n at bit n - 1.
+    // How many sets of them there are, and the set of all of them.
     const SETS: usize = 1 << Self::COUNT;
 
     const ALL: u16 = (1 << Self::COUNT) - 1;
+}
 
-    // Whether the capability is in the set.
-    pub fn is_in(self, capabilities: u8) -> bool
-        ensures { result ≡ holds capability_count capabilities self.0 }
-    {
-        sets::holds(Self::COUNT, capabilities as u16, self.0)
+impl Numbered for Capability {
+    type Set = u8;
+
+    ghost COUNT = { capability_count };
+
+    const COUNT: u32 = 3;
+
+    ghost number = { λ c. c.0 };
+
+    fn number(self) -> u32 {
+        self.0
     }
 
-    // The set of capabilities with this one switched on or off.
-    #[tactic(auto, using(sets::proofs::Switches::switched_lt), unfolding(choice::specs::Pick::pick))]
-    pub fn switched(self, capabilities: u8, on: bool) -> u8
-        ensures { result ≡ switched capability_count capabilities self.0 on }
-    {
-        sets::switched(Self::COUNT, capabilities as u16, self.0, on) as u8
-    }
+    ghost fits = { Prim.search rules };
 }
 
 // The set of a kind in a table; of a kind over 9, the empty one.
 fn at(table: [u16; KINDS], kind: u16) -> u16
     ensures { result ≡ get_or table kind 0 }
 {
-    let i = kind as usize;
-    if i < KINDS {
-        return table[i];
-    }
-    0
+    table.get(kind as usize).copied().unwrap_or(0)
 }
 
 // The kinds that these members stand for by a table: those whose set they meet.
@@ -176,9 +169,13 @@ fn kinds_by(table: [u16; KINDS], members: u16) -> u16
     ensures { result ≡ kinds_by table members }
 {
     let mut kinds: u16 = 0;
-    for i in 0..KIND_COUNT {
-        let on = sets::meets(members, at(table, i as u16));
-        kinds = sets::switched(KIND_COUNT, kinds, i + 1, on);
+    for (kind, &set) in table.iter().enumerate() {
+        kinds = sets::switched(
+            KIND_COUNT,
+            kinds,
+            kind as u32 + 1,
+            sets::meets(members, set),
+        );
     }
     kinds
 }
@@ -190,12 +187,14 @@ fn openers(kind: u16, protects: u16) -> u16
 {
     let always = at(OPENERS, kind);
     if sets::has(protects, kind) {
-        return sets::union(always, TaId::SESSION_PROTECTION);
+        sets::union(always, TaId::SESSION_PROTECTION)
+    } else {
+        always
     }
-    always
 }
 
-// Whether a set of applications opens this one kind.
+/// Whether a set of applications opens this one kind, in a session with these protected kinds. A kind over 9 is opened where it is protected and
+/// Session Protection is in the set.
 #[tactic(auto, using(crate::proofs::ByKind::opened_meets), unfolding(choice::specs::Pick::pick))]
 pub fn opens_kind(applications: u16, protects: u16, kind: u16) -> bool
     ensures { result ≡ has (opened protects applications) kind }
@@ -203,43 +202,45 @@ pub fn opens_kind(applications: u16, protects: u16, kind: u16) -> bool
     sets::meets(applications, openers(kind, protects))
 }
 
-// The kinds that a set of applications opens.
-#[tactic(auto, using(crate::proofs::ByKind::opened_by_kind, sets::proofs::Members::union_none), unfolding(choice::specs::Pick::pick))]
+/// The kinds that a set of applications opens, in a session with these protected kinds.
+#[tactic(auto, using(crate::proofs::ByKind::opened_protected, crate::proofs::ByKind::opened_unprotected), unfolding(choice::specs::Pick::pick))]
 pub fn opened(applications: u16, protects: u16) -> u16
     ensures { result ≡ opened protects applications }
 {
     let kinds = kinds_by(OPENERS, applications);
     if sets::has(applications, TaId::SESSION_PROTECTION_BIT) {
-        return sets::union(kinds, protects);
+        sets::union(kinds, protects)
+    } else {
+        kinds
     }
-    kinds
 }
 
-// Whether a set of Apps disables this one kind.
+/// Whether a set of Apps disables this one kind.
 #[tactic(auto, using(crate::proofs::Table::controllers_at, crate::proofs::ByKind::disables_meets), unfolding(choice::specs::Pick::pick))]
 pub fn disables_kind(apps: u8, kind: u16) -> bool
     ensures { result ≡ has (disables apps) kind }
 {
-    sets::meets(apps as u16, at(CONTROLLERS, kind))
+    sets::meets(apps.into(), at(CONTROLLERS, kind))
 }
 
-// The kinds that a set of Apps disables.
+/// The kinds that a set of Apps disables.
 #[tactic(auto, using(crate::proofs::ByKind::disables_by_kind), unfolding(choice::specs::Pick::pick))]
 pub fn disables(apps: u8) -> u16
     ensures { result ≡ disables apps }
 {
-    kinds_by(CONTROLLERS, apps as u16)
+    kinds_by(CONTROLLERS, apps.into())
 }
 
-// The kinds that need a capability that is not held.
+/// The kinds that need a capability which is not in the set.
+#[tactic(auto, using(crate::proofs::Capable::known_lt, crate::proofs::Capable::known_bar))]
 pub fn barred(held: u8) -> u16
     ensures { result ≡ barred held }
 {
-    let known = sets::common(Capability::ALL, held as u16);
+    let known = sets::common(Capability::ALL, held.into());
     BARRED[known as usize]
 }
 
-// Whether this one kind does.
+/// Whether this one kind does.
 pub fn bars_kind(held: u8, kind: u16) -> bool
     ensures { result ≡ has (barred held) kind }
 {

@@ -1,12 +1,12 @@
 -- Messages that we write, from their parts. "Type 0x0202, length 13, a 32-bit message number, one TAC with S = 1 and one element, E = 1 for on
--- and 0 for off; 17 octets, of which the last 9 are its area". A wish, by L2: "14 octets, SAC with one element". Assumes nothing.
-use Rattle.std.specs.Prelude.{ℕ, ◌+◌, Bool, true, List, [], ◌∷◌, ◌++◌, length, ltb}
+-- and 0 for off; 17 octets, of which the last 9 are its area". A wish: "14 octets, SAC with one element". Assumes nothing.
+use Rattle.std.specs.Prelude.{ℕ, ◌+◌, Bool, true, Option, None, Some, List, [], ◌∷◌, ◌++◌, length, ltb}
 use Rattle.choice.specs.Pick.{pick}
 use Rattle.octets.specs.Octets.{be16, be32, top_bit, over}
 use Rattle.area.specs.Area.{tac_type, sac_type}
 use Rattle.area.specs.Tlvs.{ours, area_of}
 use Rattle.message.specs.declared.Message.{Message}
-use Rattle.message.specs.declared.Message.TheVariants.{NoMessage, Change, Wish}
+use Rattle.message.specs.declared.Message.TheVariants.{Change, Wish}
 use Rattle.message.specs.Sac.{app_element, sac_value}
 
 -- an element of a TAC: "TA-Id (16 bits), E (the top bit of the third octet), 15 reserved bits"; "reserved and unused bits are written 0"
@@ -58,11 +58,14 @@ app_octets n disable = one_tlv sac_type (one_app n disable)
 abbrev pub wish_of : ℕ → ℕ → Bool → List ℕ
 wish_of number n disable = capability_with number sac_type (one_app n disable)
 
--- what an event writes
+-- a message that an event writes, and what is written of one that may be none
 abbrev pub octets_of : Message → List ℕ
-octets_of NoMessage = []
 octets_of (Change number n on) = message_of number n on
 octets_of (Wish number n disable) = wish_of number n disable
+
+abbrev pub written_of : Option Message → List ℕ
+written_of None = []
+written_of (Some m) = octets_of m
 
 -- "17 octets", and "14 octets"
 abbrev pub change_length : ℕ
@@ -72,5 +75,5 @@ abbrev pub wish_length : ℕ
 wish_length = 14
 
 -- the room after an event that says how many octets were written: the message in front, and "octets of room beyond those written stay as found"
-unfoldable pub room_with : ℕ → Message → List ℕ → List ℕ
-room_with written m room = pick (ltb 0 written) (over (octets_of m) room) room
+unfoldable pub room_with : ℕ → Option Message → List ℕ → List ℕ
+room_with written m room = pick (ltb 0 written) (over (written_of m) room) room

@@ -1,10 +1,10 @@
 -- A number of 16 or 32 bits, put into octets and read back, is the number, and so is a top bit; octets read as a number and put back are the
--- octets. The four octets go by the quotients, one digit at a time. Assumes nothing.
+-- octets. Assumes nothing.
 use Prim.Native.Nat.{ℕ, ◌+◌, ◌*◌, ◌/◌, ◌%◌, ◌<◌}
-use mathlib.Core.Path.{◌≡◌, refl, sym}
+use mathlib.Core.Path.{◌≡◌, refl}
 use mathlib.Core.Bool.{Bool, true, false}
 use native.Mathlib.Omega.{arith}
-use native.Mathlib.Nat.{div-div-eq-div-mul}
+use Rattle.std.proofs.lemmas.Nat.{from_le_bytes-to_le_bytes_4}
 use Rattle.choice.specs.Pick.{pick}
 use Rattle.octets.specs.Octets.{top_bit, has_top_bit}
 
@@ -21,18 +21,9 @@ unfolding pick
 top_back true = refl
 top_back false = refl
 
-digits : (x q r t : ℕ) → x < 4294967296 → q ≡ x / 256 → r ≡ q / 256 → t ≡ r / 256
-    → x % 256 + 256 * (q % 256) + 65536 * (r % 256) + 16777216 * (t % 256) ≡ x
-digits x q r t h e f g =
-    let q< : q < 16777216 = omega arith in
-    let r< : r < 65536 = omega arith in
-    let t< : t < 256 = omega arith in
-    omega arith
-
 pub back32 : (x : ℕ) → x < 4294967296
     → x % 256 + 256 * (x / 256 % 256) + 65536 * (x / 65536 % 256) + 16777216 * (x / 16777216 % 256) ≡ x
-back32 x h =
-    digits x (x / 256) (x / 65536) (x / 16777216) h refl (sym (div-div-eq-div-mul x 256 256)) (sym (div-div-eq-div-mul x 65536 256))
+back32 x h = omega (arith, from_le_bytes-to_le_bytes_4 x h)
 
 -- ---- the octets of a number that was read from octets
 module _ (a b : ℕ) (a< : a < 256) (b< : b < 256) where

@@ -1,23 +1,20 @@
 #![tactic(auto)]
 // Octets put over the front of lent ones, the top bit of an octet, and the numbers that octets of a record hold.
-ghost use Rattle.std.specs.Prelude.{◌≡◌, ◌+◌, ◌<◌, ◌≤◌, length};
+ghost use Rattle.std.specs.Prelude.{◌≡◌, ◌+◌, ◌<◌, ◌≤◌, length, take, drop};
 ghost use Rattle.octets.specs.Octets.{le_at16, le_at32, top_bit, over, over_at};
 
 // Puts `written` over the front of the room; what lies beyond stays, and without enough room all of it does.
+#[tactic(auto, unfolding(choice::specs::Pick::pick, crate::specs::Octets::over))]
 pub fn put(room: &mut [u8], written: &[u8])
     ensures { room.new ≡ over written.now room.old }
 {
-    if room.len() < written.len() {
-        return;
-    }
-    let mut i = 0;
-    while i < written.len() {
-        room[i] = written[i];
-        i += 1;
+    if written.len() <= room.len() {
+        room[..written.len()].copy_from_slice(written);
     }
 }
 
 // The same from `at` on; what lies before stays too.
+#[tactic(auto, using(crate::proofs::Front::behind))]
 pub fn put_at(room: &mut [u8], at: usize, written: &[u8])
     requires { at ≤ length room.old }
     ensures { room.new ≡ over_at at written.now room.old }
@@ -35,16 +32,13 @@ pub fn top_bit(on: bool) -> u8
     if on { TOP_BIT } else { 0 }
 }
 
-fn wide16(x: u8) -> u16
-    ensures { (result ≡ x) × (result ≤ 255) }
+// Octets and a place, not the octets from there on, and a function for each width: docs/PROMISES.md names `put_at`, `read16` and `read32`.
+// N octets from a place on.
+fn octets_at<const N: usize>(octets: &[u8], at: usize) -> [u8; N]
+    requires { at + N ≤ length octets.now }
+    ensures { result ≡ take N (drop at octets.now) }
 {
-    x as u16
-}
-
-fn wide32(x: u16) -> u32
-    ensures { (result ≡ x) × (result ≤ 65535) }
-{
-    x as u32
+    *octets[at..].first_chunk::<N>().unwrap()
 }
 
 // Two octets, least significant first.
@@ -52,7 +46,7 @@ pub fn read16(octets: &[u8], at: usize) -> u16
     requires { at + 1 < length octets.now }
     ensures { result ≡ le_at16 octets.now at }
 {
-    wide16(octets[at]) + 256 * wide16(octets[at + 1])
+    u16::from_le_bytes(octets_at(octets, at))
 }
 
 // Four octets, least significant first.
@@ -60,5 +54,5 @@ pub fn read32(octets: &[u8], at: usize) -> u32
     requires { at + 3 < length octets.now }
     ensures { result ≡ le_at32 octets.now at }
 {
-    wide32(read16(octets, at)) + 65536 * wide32(read16(octets, at + 2))
+    u32::from_le_bytes(octets_at(octets, at))
 }

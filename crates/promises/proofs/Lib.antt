@@ -13,6 +13,7 @@ pub mod RowCondition3
 pub mod RowCalls
 pub mod RowRecords
 pub mod Creation
+pub mod Traits
 pub mod Determined
 pub mod Why
 pub mod Wishes

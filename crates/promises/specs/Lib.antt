@@ -21,5 +21,6 @@ pub mod TotalExamples
 pub mod CapabilityExamples
 pub mod WishExamples
 pub mod MoveExamples
+pub mod Traits
 pub mod Determined
 pub mod Promises

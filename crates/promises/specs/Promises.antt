@@ -30,12 +30,14 @@ use Rattle.promises.specs.TotalExamples.{TotalExamples}
 use Rattle.promises.specs.CapabilityExamples.{CapabilityExamples}
 use Rattle.promises.specs.WishExamples.{WishExamples}
 use Rattle.promises.specs.MoveExamples.{MoveExamples}
+use Rattle.promises.specs.Traits.{NumberedMeans}
 use Rattle.promises.specs.Determined.{AllDetermined}
 
 pub record Promises : Type 0 where
   -- applications and kinds
   pub layouts_agree : LayoutsAgree
   pub app_layouts_agree : AppLayoutsAgree
+  pub numbered_means : NumberedMeans
   -- reading, and lists
   pub parts_inside : PartsInside
   pub nothing_after_refusal : NothingAfterRefusal

@@ -1,12 +1,17 @@
 -- A session taken out of its record for a row, and put back. Assumes nothing.
-use Rattle.std.specs.Prelude.{ℕ, ◌<◌, ◌^◌, ◌≡◌, true, List, length, get_or, eqb}
+use Rattle.std.specs.Prelude.{ℕ, ◌<◌, ◌^◌, ◌≡◌, true, List, length, get_or, eqb, Result}
 use Rattle.choice.specs.Pick.{pick}
-use Rattle.refusals.specs.Refusals.{not_refused, not_sound}
+use Rattle.refusals.specs.declared.Refusal.{Refusal}
+use Rattle.refusals.specs.Refusals.{not_refused, not_sound, told_as}
 use Rattle.session.specs.declared.Session.{Session}
 use Rattle.session.specs.Session.{sound}
 use Rattle.session.specs.With.{no_session}
 use Rattle.record.specs.declared.Loaded.{Loaded}
 use Rattle.record.specs.Record.{record_length, decoded, stored_in}
+
+-- a session or why there is none, as C has it
+abbrev pub loaded_of : Result Session Refusal → Loaded
+loaded_of = told_as (λ s. record { refusal = not_refused; session = s }) (λ n. record { refusal = n; session = no_session })
 
 -- 10 for "the .. record handed in is not sound": refused, no session
 unfoldable pub load : List ℕ → Loaded

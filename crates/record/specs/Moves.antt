@@ -1,11 +1,12 @@
--- L5: "Provide the move from kind 1, with both octets 0, and back .. For an Open session moved forward, report the kinds it loses by L4". A record is handed
--- in, and the room for the other kind is lent. Assumes nothing.
-use Rattle.std.specs.Prelude.{ℕ, ◌<◌, ◌≤◌, ◌≡◌, Bool, true, false, ◌&&◌, ◌↔◌, List, length, get_or, eqb}
+-- The move from kind 1 to kind 2, with both octets of capabilities 0, and back. Of an Open session that is moved forward the kinds are reported which it loses
+-- because kinds need capabilities. A record is handed in, and the room for the other kind is lent. Assumes nothing.
+use Rattle.std.specs.Prelude.{ℕ, ◌<◌, ◌≤◌, ◌≡◌, Bool, true, false, ◌&&◌, ◌↔◌, List, length, get_or, eqb, Result}
 use Rattle.choice.specs.Pick.{pick}
 use Rattle.octets.specs.Octets.{le_at16}
 use Rattle.sets.specs.Set.{has, minus, empty}
 use Rattle.kinds.specs.Kinds.{all_capabilities}
-use Rattle.refusals.specs.Refusals.{not_refused, not_sound, capabilities_held}
+use Rattle.refusals.specs.declared.Refusal.{Refusal}
+use Rattle.refusals.specs.Refusals.{not_refused, not_sound, capabilities_held, told_as}
 use Rattle.session.specs.declared.Session.{Session}
 use Rattle.session.specs.Session.{is_open, sound, permitted_by_base, permitted}
 use Rattle.session.specs.With.{no_session, with_ours, with_theirs}
@@ -15,9 +16,13 @@ use Rattle.record.specs.Record.{record_length, kind_field, kind1_length, encoded
 use Rattle.record.specs.Loaded.{store_refusal, store_octets}
 
 -- ---- forward: the session of the kind 1 record, stored
--- "the kinds it loses by L4": those that 01's rule permits and L4's does not. Not Open, 01's rule permits none
+-- the kinds that it loses: those that the rule without capabilities permits and the rule with them does not. Not Open, neither permits any
 unfoldable pub loses_by_capabilities : Session → ℕ
 loses_by_capabilities s = minus (permitted_by_base s) (permitted s)
+
+-- the kinds lost or why it is refused, as C has it
+abbrev pub moved_of : Result ℕ Refusal → Moved
+moved_of = told_as (λ lost. record { refusal = not_refused; lost = lost }) (λ n. record { refusal = n; lost = 0 })
 
 -- "10 for an unsound record", or for a room that is not of its size; refused, none is reported lost
 unfoldable pub forward : List ℕ → List ℕ → Moved
@@ -87,7 +92,7 @@ pub record MovesRefused : Type 0 where
   pub forward_refused : (l room : List ℕ) → ForwardRefused l room
   pub back_refused : (l room : List ℕ) → BackRefused l room
 
--- what is reported lost: of an Open session "those of 2 to 6 that 01's rule permitted", which L4's does not; of any other none
+-- what is reported lost: of an Open session those of kinds 2 to 6 that the rule without capabilities permitted; of any other none
 pub record Lost (l room : List ℕ) : Type 0 where
   pub rules : (k : ℕ) → (has (forward l room).lost k ≡ true) ↔ ((has (permitted_by_base (decoded_kind1 l)) k ≡ true) × (has (permitted (decoded_kind1 l)) k ≡ false))
   pub kinds : (k : ℕ) → (has (forward l room).lost k ≡ true) ↔ ((2 ≤ k) × (k ≤ 6) × (has (permitted_by_base (decoded_kind1 l)) k ≡ true))
@@ -100,8 +105,8 @@ LostMeans = (l room : List ℕ) → (forward l room).refusal ≡ not_refused →
 abbrev pub holding_all : Session → Session
 holding_all s = with_theirs (with_ours s all_capabilities) all_capabilities
 
--- "a moved session's every other question has the same answer": it is the session of the kind 1 record, field by field; it permits what 01's rule permitted
--- without what was reported lost; and of any other kind the reason is the one that stood before capabilities were asked
+-- "a moved session's every other question has the same answer": it is the session of the kind 1 record, field by field; it permits what the rule without capabilities permitted,
+-- less what was reported lost; and of any other kind the reason is the one that stood before capabilities were asked
 pub record Same (l room : List ℕ) : Type 0 where
   pub session : decoded (forward_room l room) ≡ decoded_kind1 l
   pub permits : permitted (decoded (forward_room l room)) ≡ minus (permitted_by_base (decoded_kind1 l)) (forward l room).lost

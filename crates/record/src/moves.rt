@@ -1,10 +1,11 @@
 // The stored record of kind 1, and the moves between it and kind 2, which every other call takes.
 ghost use Rattle.std.specs.Prelude.{◌≡◌, length};
+ghost use Rattle.refusals.specs.Refusals.{number_told};
 ghost use Rattle.record.specs.Record.{kind1_length, encoded_kind1, decoded_kind1};
-ghost use Rattle.record.specs.Moves.{loses_by_capabilities, holds_none, forward, forward_room, back_refusal, back_room};
+ghost use Rattle.record.specs.Moves.{loses_by_capabilities, holds_none, forward, forward_room, moved_of, back_refusal, back_room};
 
-use crate::Moved;
-use session::Session;
+use refusals::Refusal;
+use session::{Session, SoundSession};
 
 // How many octets a record of kind 1 has, and what its first two fields hold.
 const KIND1_LENGTH: usize = 22;
@@ -39,13 +40,12 @@ fn put_kind1(s: Session, room: &mut [u8])
     octets::put(room, &octets[..KIND1_LENGTH]);
 }
 
-// The kinds that document 01's rule permits and capabilities take away.
+// The kinds that the base's rule permits and capabilities take away.
 #[tactic(auto, unfolding(choice::specs::Pick::pick, crate::specs::Moves::loses_by_capabilities))]
 fn loses_by_capabilities(s: Session) -> u16
     ensures { result ≡ loses_by_capabilities s }
 {
-    let base = s.permitted_by_base();
-    sets::minus(base, s.permitted())
+    sets::minus(s.permitted_by_base(), s.permitted())
 }
 
 // Neither end holds a capability.
@@ -56,41 +56,29 @@ fn holds_none(s: Session) -> bool
     (s.ours == 0) & (s.theirs == 0)
 }
 
-// Moves a record of kind 1 into a room of 24 octets, or answers 10.
-#[tactic(auto, unfolding(choice::specs::Pick::pick, crate::specs::Moves::forward, crate::specs::Moves::forward_room, crate::specs::Loaded::store_refusal, crate::specs::Loaded::store_octets, crate::specs::Record::stored_in))]
-pub fn forward(kind1: &[u8], kind2: &mut [u8]) -> Moved
-    ensures { (result ≡ forward kind1.now kind2.old) × (kind2.new ≡ forward_room kind1.now kind2.old) }
+// Moves a record of kind 1 into a room of 24 octets, and answers the kinds lost, or 10.
+#[tactic(auto, unfolding(choice::specs::Pick::pick, crate::specs::Moves::forward, crate::specs::Moves::forward_room))]
+pub fn forward(kind1: &[u8], kind2: &mut [u8]) -> Result<u16, Refusal>
+    ensures { (moved_of result ≡ forward kind1.now kind2.old) × (kind2.new ≡ forward_room kind1.now kind2.old) }
 {
     let s = decoded_kind1(kind1);
-    if s.sound() & (kind2.len() == crate::LENGTH) {
-        crate::stored_in(s, kind2);
-        let lost = loses_by_capabilities(s);
-        return Moved {
-            refusal: refusals::NOT_REFUSED,
-            lost,
-        };
-    }
-    Moved {
-        refusal: refusals::NOT_SOUND,
-        lost: 0,
-    }
+    crate::store(s, kind2)?;
+    Ok(loses_by_capabilities(s))
 }
 
 // Moves a record into a room of 22 octets, or answers 10, or 13 where it has a capability to lose.
 #[tactic(auto, unfolding(choice::specs::Pick::pick, crate::specs::Moves::back_refusal, crate::specs::Moves::back_room))]
-pub fn back(kind2: &[u8], kind1: &mut [u8]) -> u8
-    ensures { (result ≡ back_refusal kind2.now kind1.old) × (kind1.new ≡ back_room kind2.now kind1.old) }
+pub fn back(kind2: &[u8], kind1: &mut [u8]) -> Result<(), Refusal>
+    ensures { (number_told result ≡ back_refusal kind2.now kind1.old) × (kind1.new ≡ back_room kind2.now kind1.old) }
 {
     let s = crate::decoded(kind2);
-    if s.sound() {
-        if kind1.len() == KIND1_LENGTH {
-            if holds_none(s) {
-                put_kind1(s, kind1);
-                return refusals::NOT_REFUSED;
-            }
-            return refusals::CAPABILITIES_HELD;
-        }
-        return refusals::NOT_SOUND;
+    SoundSession::try_from(s)?;
+    if kind1.len() != KIND1_LENGTH {
+        return Err(Refusal::NotSound);
     }
-    refusals::NOT_SOUND
+    if !holds_none(s) {
+        return Err(Refusal::CapabilitiesHeld);
+    }
+    put_kind1(s, kind1);
+    Ok(())
 }

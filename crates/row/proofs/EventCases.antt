@@ -4,10 +4,10 @@ use Prim.Native.Nat.{ℕ, ◌^◌, ◌<◌}
 use mathlib.Core.Path.{◌≡◌, refl, sym, ap, ◌∙◌}
 use mathlib.Core.Bool.{true, false}
 use mathlib.Core.List.{List}
+use Rattle.std.specs.Prelude.{None}
 use lib.Dec.{eqb}
 use borrow.Author.Tests.{eqb-true}
 use Rattle.choice.proofs.Branch.{by_test, taken, left}
-use Rattle.message.specs.declared.Message.TheVariants.{NoMessage}
 use Rattle.session.specs.declared.Session.{Session}
 use Rattle.session.specs.Events.{Event, Initialization, Capability, LocalChange, Mismatch, Hello, Closed, Unknown, Numbered, message_for}
 use Rattle.session.proofs.View.{Admits}
@@ -16,7 +16,7 @@ use Rattle.row.specs.Events.{initialization_number, capability_number, local_cha
 
 -- it writes nothing and is not admitted, whatever the session, and has no number but the one handed in
 pub record Quiet (number : ℕ) (ev : Event) : Type 0 where
-  pub unwritten : (s : Session) → message_for s ev ≡ NoMessage
+  pub unwritten : (s : Session) → message_for s ev ≡ None
   pub not_admitted : (s t : Session) (b : ℕ) → Admits s ev t b → ⊥
   pub numbered : number < 2 ^ 32 → Numbered ev
 

@@ -31,7 +31,7 @@ use Rattle.row.specs.declared.Counted.{Counted}
 use Rattle.row.specs.declared.Tally.{Tally}
 use Rattle.row.specs.Events.{initialization_number, event_of, message_in}
 use Rattle.row.specs.Row.{session_at, all_sound, is_row, in_row, event_with, row_after, room_after, not_counted, count_of, not_totalled, recount}
-use Rattle.row.specs.Counting.{applications_counted, kinds_counted, counted_for, noted, empty_tally, tallied, is_below, below_limit_by, decided_by, totalled_by, room_by, count_by, leading_counts, recount_by}
+use Rattle.row.specs.Counting.{applications_counted, kinds_counted, counting, counted_for, noted, empty_tally, tallied, is_below, below_limit_by, decided_by, totalled_by, room_by, count_by, leading_counts, recount_by}
 use Rattle.row.specs.Survey.{leading, surveyed}
 use Rattle.row.proofs.Tallied.{tallied_sound, event_in_row, room_in_row, count_in_row, recount_in_row}
 
@@ -59,7 +59,7 @@ sound_found row at counting of inside all = sound_at row at all (ltb-true at (le
 -- ---- by what the pass found
 module _ (row : List Session) (at : ℕ) (e : EventNumbers) (l : Limits) (area : List ℕ) where
   abbrev pub Found : Tally
-  Found = surveyed (counted_for e).counting (noted (counted_for e)) row
+  Found = surveyed (counting (counted_for e)) (noted (counted_for e)) row
 
   abbrev Whole : Tally
   Whole = tallied (noted applications_counted) empty_tally row
@@ -69,7 +69,7 @@ module _ (row : List Session) (at : ℕ) (e : EventNumbers) (l : Limits) (area :
   unfolding event_of below_limit_by counted_for
   event_same room all =
       pick_both ◌≡◌ (eqb e.which initialization_number)
-      (λ is. ap (λ (cs : List ℕ). Initialization area (chosen application_count (is_below cs l.each) application_count)) (ap (λ (c : Counted). (surveyed c.counting (noted c) row).counts) (taken _ _ is) ∙ surveyed_all (noted applications_counted) row all))
+      (λ is. ap (λ (cs : List ℕ). Initialization area (chosen application_count (is_below cs l.each) application_count)) (ap (λ (c : Counted). (surveyed (counting c) (noted c) row).counts) (taken _ _ is) ∙ surveyed_all (noted applications_counted) row all))
       (λ _. refl)
 
   decided_same : (room : ℕ) (s : Session) → decided_by s Found e l area room ≡ decided_by s Whole e l area room
@@ -91,13 +91,13 @@ module _ {A : Type 0} (of : Session → ℕ) (row : List Session) (asked : List 
   unfolding surveyed
   same_asked = rw (tallied_sound of empty_tally row) (pick_both ◌≡◌ (all_sound row) (λ all. ap asked (surveyed_all of row all)) (λ _. refl))
 
-pub count_found : (row : List Session) (n : ℕ) → is_row row ≡ true → count_by (surveyed applications_counted.counting (noted applications_counted) row) n ≡ count_of row n
+pub count_found : (row : List Session) (n : ℕ) → is_row row ≡ true → count_by (surveyed (counting applications_counted) (noted applications_counted) row) n ≡ count_of row n
 unfolding count_by
 count_found row n there =
     same_asked (noted applications_counted) row (λ cs. pick (known_application n) (record { refusal = not_refused; count = get_or cs (n - 1) 0 }) (not_counted out_of_range)) (not_counted not_sound)
     ∙ count_in_row row n there
 
-pub recount_found : (row : List Session) → is_row row ≡ true → recount_by (surveyed kinds_counted.counting (noted kinds_counted) row) ≡ recount row
+pub recount_found : (row : List Session) → is_row row ≡ true → recount_by (surveyed (counting kinds_counted) (noted kinds_counted) row) ≡ recount row
 unfolding recount_by
 recount_found row there =
     same_asked (noted kinds_counted) row (λ cs. record { refusal = not_refused; totals = record { each = leading_counts cs kind_count } }) (not_totalled not_sound) ∙ recount_in_row row there
@@ -111,7 +111,7 @@ sound_told row at d counting of t inside found all = rw (session_told row at d i
 
 -- what a call makes of the row, by what the pass over it found
 pub event_told : (row : List Session) (at : ℕ) (d : Session) (e : EventNumbers) (l : Limits) (t : Totals) (area room room' : List ℕ) (counted : Counted) (found : Tally) (after : Totalled)
-    → in_row row at ≡ true → counted ≡ counted_for e → found ≡ surveyed counted.counting (noted counted) row
+    → in_row row at ≡ true → counted ≡ counted_for e → found ≡ surveyed (counting counted) (noted counted) row
     → (after ≡ totalled_by (get_or row at d) found e l t area (length room)) × (room' ≡ room_by (get_or row at d) found e l t area room)
     → (after.answer ≡ (event_with row at e l t area (length room)).answer) × (set row at after.session ≡ row_after row at e l t area (length room)) × (room' ≡ room_after row at e l t area room)
 event_told row at d e l t area room room' counted found after inside asked seen said =

@@ -2,26 +2,26 @@
 -- that every count has a digit in each plane it needs. By induction over the row, from the law of planes. Assumes empty_tally.
 use Prim.Native.Nat.{ℕ, suc, ◌+◌, ◌^◌, ◌<◌, ◌≤◌}
 use mathlib.Core.Path.{◌≡◌, refl, sym, ap, ◌∙◌}
-use mathlib.Core.Bool.{Bool, true, false, ◌&&◌, true≢false}
+use mathlib.Core.Bool.{Bool, true, false, not, ◌&&◌}
 use mathlib.Core.List.{List, [], ◌∷◌}
 use lib.ListN.{length, get_or, drop, drop_of_length-le}
-use lib.Dec.{ltb}
-use borrow.Author.Tests.{ltb-false}
-use lib.Seq.{ext_get_or}
+use lib.Seq.{ext_get_or, drop-cons}
+use native.Mathlib.Numerals.{add-one}
 use native.Mathlib.Nat.{le_refl, zero-add}
 use native.Mathlib.Omega.{arith}
+use lib.Dec.{ltb}
+use borrow.Author.Tests.{ltb-true, ltb-false}
 use Rattle.choice.specs.Pick.{pick}
 use Rattle.choice.proofs.Branch.{taken, left, by_test}
 use Rattle.sets.specs.Set.{has}
 use Rattle.kinds.specs.Kinds.{application_count}
 use Rattle.session.specs.declared.Session.{Session}
 use Rattle.session.specs.Session.{sound}
-use Rattle.row.specs.declared.Survey.{Survey}
 use Rattle.row.specs.declared.Tally.{Tally}
 use Rattle.row.specs.Limiting.{most_sessions}
 use Rattle.row.specs.Row.{how_many, all_sound}
 use Rattle.row.specs.Counting.{times, empty_tally, tallied}
-use Rattle.row.specs.Survey.{plane_count, added, weighed, weighed_each, empty_survey, surveyed_with, tally_by, leading, surveyed}
+use Rattle.row.specs.Survey.{plane_count, added, weighed, weighed_each, empty_planes, with_one, counts_by, leading, surveyed}
 use Rattle.totals.proofs.Filled.{filled_length, filled_at}
 use Rattle.row.proofs.Adder.{added_weighed, added_length, weighed_none}
 use Rattle.row.proofs.Tallied.{capped_is, tallied_length, row_times}
@@ -54,62 +54,75 @@ module _ (planes : List ℕ) where
   weighed_each_at k l = filled_at (weighed planes) (weighed_each planes) (λ m. refl) application_count k l l
 
 -- the counts of a tally
-summed_counts : (of : Session → ℕ) (row : List Session) → length row ≤ most_sessions → weighed_each (summed of empty_survey.planes row) application_count ≡ (tallied of empty_tally row).counts
+summed_counts : (of : Session → ℕ) (row : List Session) → length row ≤ most_sessions → weighed_each (summed of empty_planes row) application_count ≡ (tallied of empty_tally row).counts
 summed_counts of row few =
-    let long = weighed_each_length (summed of empty_survey.planes row) in
+    let long = weighed_each_length (summed of empty_planes row) in
     ext_get_or 0 _ _ (long ∙ sym (tallied_length of empty_tally row)) (λ k l. same k (rw long at l))
   where
-    same : (k : ℕ) → k < application_count → get_or (weighed_each (summed of empty_survey.planes row) application_count) k 0 ≡ get_or (tallied of empty_tally row).counts k 0
+    same : (k : ℕ) → k < application_count → get_or (weighed_each (summed of empty_planes row) application_count) k 0 ≡ get_or (tallied of empty_tally row).counts k 0
     same k l =
-        let none : weighed empty_survey.planes k ≡ 0 = weighed_none plane_count k in
+        let none : weighed empty_planes k ≡ 0 = weighed_none plane_count k in
         let most = how_many_le (λ s. has (of s) k) row in
-        weighed_each_at (summed of empty_survey.planes row) k l ∙ summed_weighed of empty_survey.planes row k (rw none (omega arith)) ∙ ap (λ (n : ℕ). n + times of row k) none ∙ zero-add (times of row k)
+        weighed_each_at (summed of empty_planes row) k l ∙ summed_weighed of empty_planes row k (rw none (omega arith)) ∙ ap (λ (n : ℕ). n + times of row k) none ∙ zero-add (times of row k)
         ∙ sym (row_times of row k l ∙ capped_is (times of row k) (omega arith))
 
--- ---- the pass from a survey on: it ends where one was not sound, or with the row
-unfoldable pub onward : Bool → (Session → ℕ) → Survey → List Session → Tally
-onward counting of v [] = tally_by counting v
-onward counting of v (s ∷ row) = pick v.sound (onward counting of (surveyed_with counting of v s) row) (tally_by counting v)
+-- ---- the pass from some planes on: it ends where one is not sound, or with the row
+module _ (counting : Bool) (of : Session → ℕ) where
+  abbrev ended : Bool → List ℕ → Tally
+  ended all planes = record { sound = all; counts = counts_by counting planes }
 
-pub onward_over : (counting : Bool) (of : Session → ℕ) (v : Survey) (row : List Session) → v.sound ≡ false → onward counting of v row ≡ tally_by counting v
-unfolding onward
-onward_over counting of v [] over = refl
-onward_over counting of v (s ∷ row) over = left _ _ over
+  unfoldable pub onward : List ℕ → List Session → Tally
+  onward planes [] = ended true planes
+  onward planes (s ∷ row) = pick (sound s) (onward (with_one counting of planes s) row) (ended false planes)
 
--- at place k: past the row, or behind one that was not sound
-pub onward_end : (counting : Bool) (of : Session → ℕ) (v : Survey) (row : List Session) (k : ℕ) → ltb k (length row) && v.sound ≡ false → onward counting of v (drop k row) ≡ tally_by counting v
-unfolding onward
-onward_end counting of v row k = go (ltb k (length row)) v.sound refl refl
+  -- at place k: past the row, at a session that is sound, or at one that is not
+  pub onward_past : (planes : List ℕ) (row : List Session) (k : ℕ) → length row ≤ k → onward planes (drop k row) ≡ record { sound = true; counts = counts_by counting planes }
+  unfolding onward
+  onward_past planes row k past = ap (onward planes) (drop_of_length-le row {i = k} past)
+
+  module _ (planes : List ℕ) (row : List Session) (k : ℕ) (d : Session) (l : k < length row) where
+    onward_at : onward planes (drop k row) ≡ pick (sound (get_or row k d)) (onward (with_one counting of planes (get_or row k d)) (drop (k + 1) row)) (ended false planes)
+    unfolding onward
+    onward_at = rw (add-one, drop-cons row k d l) refl
+
+    pub onward_more : sound (get_or row k d) ≡ true → onward planes (drop k row) ≡ onward (with_one counting of planes (get_or row k d)) (drop (k + 1) row)
+    onward_more all = onward_at ∙ taken _ _ all
+
+    pub onward_stop : sound (get_or row k d) ≡ false → onward planes (drop k row) ≡ record { sound = false; counts = counts_by counting planes }
+    onward_stop over = onward_at ∙ left _ _ over
+
+  -- past the row or at one that is not sound it has ended
+  pub onward_end : (planes : List ℕ) (row : List Session) (k : ℕ) (d : Session) → ltb k (length row) && sound (get_or row k d) ≡ false
+      → onward planes (drop k row) ≡ record { sound = not (ltb k (length row)); counts = counts_by counting planes }
+  onward_end planes row k d = go (ltb k (length row)) refl
+    where
+      go : (b : Bool) → ltb k (length row) ≡ b → b && sound (get_or row k d) ≡ false → onward planes (drop k row) ≡ record { sound = not b; counts = counts_by counting planes }
+      go true e over = onward_stop planes row k d (ltb-true k (length row) e) over
+      go false e over = onward_past planes row k (ltb-false k (length row) e)
+
+abbrev found : Bool → (Session → ℕ) → List ℕ → List Session → Tally
+found counting of planes row = record { sound = all_sound row; counts = pick counting (weighed_each (summed of planes (leading row)) application_count) empty_tally.counts }
+
+onward_found : (counting : Bool) (of : Session → ℕ) (planes : List ℕ) (row : List Session) → onward counting of planes row ≡ found counting of planes row
+unfolding onward with_one counts_by all_sound leading summed pick
+onward_found counting of planes [] = refl
+onward_found counting of planes (s ∷ row) = go counting (sound s) (λ c p. onward_found c of p row)
   where
-    go : (a b : Bool) → ltb k (length row) ≡ a → v.sound ≡ b → a && b ≡ false → onward counting of v (drop k row) ≡ tally_by counting v
-    go true true e f h = absurd (true≢false h)
-    go true false e f h = onward_over counting of v (drop k row) f
-    go false b e f h = ap (onward counting of v) (drop_of_length-le row {i = k} (ltb-false k (length row) e))
-
-module _ (counting : Bool) (of : Session → ℕ) (planes : List ℕ) (row : List Session) where
-  abbrev found : Tally
-  found = record { sound = all_sound row; counts = pick counting (weighed_each (summed of planes (leading row)) application_count) empty_tally.counts }
-
-onward_found : (counting : Bool) (of : Session → ℕ) (v : Survey) (row : List Session) → v.sound ≡ true → onward counting of v row ≡ found counting of v.planes row
-unfolding onward surveyed_with tally_by all_sound leading summed pick
-onward_found counting of v [] all = ap (λ (b : Bool). record { sound = b; counts = (tally_by counting v).counts }) all
-onward_found counting of v (s ∷ row) all = taken _ _ all ∙ go counting (sound s) (λ c v' so. onward_found c of v' row so)
-  where
-    go : (c b : Bool) → ((c : Bool) (v' : Survey) → v'.sound ≡ true → onward c of v' row ≡ found c of v'.planes row)
-        → onward c of (pick b (pick c (record { sound = v.sound; planes = added v.planes (of s) }) v) (record { sound = false; planes = v.planes })) row
-        ≡ record { sound = b && all_sound row; counts = pick c (weighed_each (summed of v.planes (pick b (s ∷ leading row) [])) application_count) empty_tally.counts }
-    go c false rest = onward_over c of (record { sound = false; planes = v.planes }) row refl
-    go true true rest = rest true (record { sound = v.sound; planes = added v.planes (of s) }) all
-    go false true rest = rest false v all
+    go : (c b : Bool) → ((c : Bool) (p : List ℕ) → onward c of p row ≡ found c of p row)
+        → pick b (onward c of (pick c (added planes (of s)) planes) row) (record { sound = false; counts = pick c (weighed_each planes application_count) empty_tally.counts })
+        ≡ record { sound = b && all_sound row; counts = pick c (weighed_each (summed of planes (pick b (s ∷ leading row) [])) application_count) empty_tally.counts }
+    go c false rest = refl
+    go true true rest = rest true (added planes (of s))
+    go false true rest = rest false planes
 
 leading_le : (row : List Session) → length (leading row) ≤ length row
 unfolding leading
 leading_le [] = le_refl 0
 leading_le (s ∷ row) = let h = leading_le row in by_test (λ (l : List Session). length l ≤ suc (length row)) (λ _. omega arith) (λ _. omega arith)
 
-pub onward_surveyed : (counting : Bool) (of : Session → ℕ) (row : List Session) → length row ≤ most_sessions → onward counting of empty_survey row ≡ surveyed counting of row
+pub onward_surveyed : (counting : Bool) (of : Session → ℕ) (row : List Session) → length row ≤ most_sessions → onward counting of empty_planes row ≡ surveyed counting of row
 unfolding surveyed
 onward_surveyed counting of row few =
     let h = leading_le row in
-    onward_found counting of empty_survey row refl
+    onward_found counting of empty_planes row
     ∙ ap (λ (cs : List ℕ). record { sound = all_sound row; counts = pick counting cs empty_tally.counts }) (summed_counts of (leading row) (omega arith))

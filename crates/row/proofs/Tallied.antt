@@ -3,8 +3,9 @@
 -- so that fewer than its limit comes out the same. By induction over the row and over the places. Assumes empty_tally.
 use Prim.Native.Nat.{ℕ, zero, suc, ◌+◌, ◌-◌, ◌<◌, ◌≤◌, zero-le}
 use mathlib.Core.Path.{◌≡◌, refl, sym, ap, ap₂, ◌∙◌}
-use mathlib.Core.Bool.{Bool, true, false, ◌&&◌, false≢true}
+use mathlib.Core.Bool.{Bool, true, false, ◌&&◌, and-true, and_assoc, false≢true}
 use mathlib.Core.List.{List, [], ◌∷◌}
+use Rattle.std.specs.Prelude.{Option}
 use lib.ListN.{length, get_or, set, get_or-replicate}
 use lib.Seq.{set-get_or}
 use lib.Dec.{ltb, leb}
@@ -25,7 +26,7 @@ use Rattle.message.specs.declared.Message.{Message}
 use Rattle.message.specs.Message.{room_with}
 use Rattle.session.specs.declared.Session.{Session}
 use Rattle.session.specs.declared.After.{After}
-use Rattle.session.specs.Session.{sound, permitted}
+use Rattle.session.specs.Session.{sound}
 use Rattle.session.specs.With.{no_session}
 use Rattle.session.specs.Decisions.{refused}
 use Rattle.session.specs.Events.{step}
@@ -99,16 +100,8 @@ capped_ltb n m l = go (dec_lt n (most_sessions + 1))
 module _ (of : Session → ℕ) where
   pub tallied_sound : (t : Tally) (row : List Session) → (tallied of t row).sound ≡ t.sound && all_sound row
   unfolding tallied tally all_sound
-  tallied_sound t [] = go t.sound
-    where
-      go : (b : Bool) → b ≡ b && true
-      go true = refl
-      go false = refl
-  tallied_sound t (s ∷ row) = tallied_sound (tally of t s) row ∙ go t.sound (sound s) (all_sound row)
-    where
-      go : (a b c : Bool) → (a && b) && c ≡ a && (b && c)
-      go true b c = refl
-      go false b c = refl
+  tallied_sound t [] = sym (and-true t.sound)
+  tallied_sound t (s ∷ row) = tallied_sound (tally of t s) row ∙ and_assoc t.sound (sound s) (all_sound row)
 
   tallied_times : (t : Tally) (row : List Session) (k : ℕ) → k < application_count → length t.counts ≡ application_count → get_or t.counts k 0 ≤ most_sessions
       → get_or (tallied of t row).counts k 0 ≡ capped (get_or t.counts k 0 + times of row k)
@@ -136,15 +129,14 @@ module _ (of : Session → ℕ) where
 -- ---- what is counted is what is asked for
 -- applications
 times_count : (row : List Session) (n : ℕ) → 1 ≤ n → n ≤ application_count → times (noted applications_counted) row (n - 1) ≡ count row n
-unfolding noted is_in
+unfolding is_in
 times_count row n least most =
     same_question _ (λ s. uses s n)
-    (λ s. ap (λ (u : ℕ). has u (n - 1)) (left _ _ refl) ∙ sym (ap (λ (b : Bool). b && has (used s) (n - 1)) (is_numbered application_count n least most))) row
+    (λ s. sym (ap (λ (b : Bool). b && has (used s) (n - 1)) (is_numbered application_count n least most))) row
 
 -- kinds
 times_walk : (row : List Session) (k : ℕ) → times (noted kinds_counted) row k ≡ walk row k
-unfolding noted
-times_walk row k = same_question _ (λ s. has (permitted s) k) (λ s. ap (λ (u : ℕ). has u k) (taken _ _ refl)) row
+times_walk row k = refl
 
 -- how many use the application n, to most_sessions
 row_count : (row : List Session) (n : ℕ) → 1 ≤ n → n ≤ application_count → get_or (tallied (noted applications_counted) empty_tally row).counts (n - 1) 0 ≡ capped (count row n)
@@ -174,7 +166,7 @@ module _ (row : List Session) (at : ℕ) (e : EventNumbers) (l : Limits) (area :
     unfolding room_by room_after
     room_in_row room inside =
         let s = session_at row at in
-        ap₂ (λ (a : After) (m : Message). room_with (totalled t s a).answer.answer.written m room) (event_in_row (length room) inside) (message_same e (below_limit l row) area (length room) s)
+        ap₂ (λ (a : After) (m : Option Message). room_with (totalled t s a).answer.answer.written m room) (event_in_row (length room) inside) (message_same e (below_limit l row) area (length room) s)
 
     -- where nothing was written the room stays
     pub room_stays : (room : List ℕ) → (event_with row at e l t area (length room)).answer.answer.written ≡ 0 → room_after row at e l t area room ≡ room

@@ -1,9 +1,10 @@
 -- What one pass over a row finds: whether all are sound, and how many sessions have each member of the set that is theirs, applications or kinds; and what is
 -- done with it by value. proofs/Tallied.antt says that it is what specs/Row.antt has. Assumes nothing.
-use Rattle.std.specs.Prelude.{ℕ, zero, suc, ◌+◌, ◌-◌, Bool, true, false, ◌&&◌, List, [], ◌∷◌, length, get_or, set, replicate, eqb, ltb}
+use Rattle.std.specs.Prelude.{ℕ, zero, suc, ◌+◌, ◌-◌, Bool, true, false, ◌&&◌, List, [], ◌∷◌, length, get_or, set, replicate, eqb, ltb, Result}
 use Rattle.choice.specs.Pick.{pick}
 use Rattle.sets.specs.Set.{has, chosen}
-use Rattle.refusals.specs.Refusals.{not_refused, out_of_range, not_sound}
+use Rattle.refusals.specs.Refusals.{not_refused, out_of_range, not_sound, told_as}
+use Rattle.refusals.specs.declared.Refusal.{Refusal}
 use Rattle.kinds.specs.Kinds.{application_count, kind_count, known_application}
 use Rattle.message.specs.Message.{room_with}
 use Rattle.session.specs.declared.Session.{Session}
@@ -18,6 +19,7 @@ use Rattle.totals.specs.Totals.{no_totals, totalled}
 use Rattle.row.specs.declared.EventNumbers.{EventNumbers}
 use Rattle.row.specs.declared.Limits.{Limits}
 use Rattle.row.specs.declared.Counted.{Counted}
+use Rattle.row.specs.declared.Counted.TheVariants.{Nothing, Applications, Kinds}
 use Rattle.row.specs.declared.Tally.{Tally}
 use Rattle.row.specs.declared.Count.{Count}
 use Rattle.row.specs.declared.RowTotals.{RowTotals}
@@ -27,21 +29,29 @@ use Rattle.row.specs.Row.{how_many, not_counted, not_totalled}
 
 -- ---- what a pass counts: nothing, the applications that sessions use, or the kinds that they permit
 abbrev pub nothing_counted : Counted
-nothing_counted = record { counting = false; kinds = false }
+nothing_counted = Nothing
 
 abbrev pub applications_counted : Counted
-applications_counted = record { counting = true; kinds = false }
+applications_counted = Applications
 
 abbrev pub kinds_counted : Counted
-kinds_counted = record { counting = true; kinds = true }
+kinds_counted = Kinds
+
+-- whether anything is counted
+abbrev pub counting : Counted → Bool
+counting Nothing = false
+counting Applications = true
+counting Kinds = true
 
 -- only an Initialization asks for counts
 unfoldable pub counted_for : EventNumbers → Counted
 counted_for e = pick (eqb e.which initialization_number) applications_counted nothing_counted
 
 -- the set of a session that is counted
-unfoldable pub noted : Counted → Session → ℕ
-noted c s = pick c.kinds (permitted s) (used s)
+abbrev pub noted : Counted → Session → ℕ
+noted Nothing s = used s
+noted Applications s = used s
+noted Kinds s = permitted s
 
 -- how many sessions have k in the set that is theirs
 abbrev pub times : (Session → ℕ) → List Session → ℕ → ℕ
@@ -95,6 +105,10 @@ count_by t n =
     (pick (known_application n) (record { refusal = not_refused; count = get_or t.counts (n - 1) 0 }) (not_counted out_of_range))
     (not_counted not_sound)
 
+-- what is answered, as C has it
+abbrev pub told_count : Result ℕ Refusal → Count
+told_count = told_as (λ n. record { refusal = not_refused; count = n }) not_counted
+
 -- ---- how many permit each kind
 -- the first k of the counts
 unfoldable pub leading_counts : List ℕ → ℕ → List ℕ
@@ -103,3 +117,7 @@ leading_counts counts (suc k) = set (leading_counts counts k) k (get_or counts k
 
 unfoldable pub recount_by : Tally → RowTotals
 recount_by t = pick t.sound (record { refusal = not_refused; totals = record { each = leading_counts t.counts kind_count } }) (not_totalled not_sound)
+
+-- what is answered, as C has it
+abbrev pub told_totals : Result Totals Refusal → RowTotals
+told_totals = told_as (λ t. record { refusal = not_refused; totals = t }) not_totalled

@@ -1,13 +1,15 @@
 -- An event of a session in a row comes as numbers. Assumes nothing.
-use Rattle.std.specs.Prelude.{ℕ, Bool, not, List, eqb}
+use Rattle.std.specs.Prelude.{ℕ, Bool, not, Option, None, Some, List, eqb}
 use Rattle.choice.specs.Pick.{pick}
 use Rattle.message.specs.declared.Message.{Message}
-use Rattle.message.specs.declared.Message.TheVariants.{NoMessage, Change}
+use Rattle.message.specs.declared.Message.TheVariants.{Change}
 use Rattle.session.specs.declared.Session.{Session}
 use Rattle.session.specs.Events.{Event, Initialization, Capability, LocalChange, Mismatch, Hello, Closed, Unknown}
 use Rattle.row.specs.declared.EventNumbers.{EventNumbers}
+use Rattle.row.specs.declared.RowEvent.{RowEvent}
+use Rattle.row.specs.declared.RowEvent.TheVariants as case
 
--- 0 to 5 in document 01's order
+-- 0 to 5, in the order in which the events are numbered
 abbrev pub initialization_number : ℕ
 initialization_number = 0
 
@@ -41,5 +43,15 @@ event_of e below_limit area room =
     (pick (eqb e.which closed_number) Closed Unknown)))))
 
 -- the message that it may write, which no area and no limit enters
-unfoldable pub message_in : EventNumbers → Session → Message
-message_in e s = pick (eqb e.which local_change_number) (Change s.next e.ta_id (is_on e)) NoMessage
+unfoldable pub message_in : EventNumbers → Session → Option Message
+message_in e s = pick (eqb e.which local_change_number) (Some (Change s.next e.ta_id (is_on e))) None
+
+-- the same by its case, as code has it
+unfoldable pub case_of : EventNumbers → RowEvent
+case_of e =
+    pick (eqb e.which initialization_number) case.Initialization
+    (pick (eqb e.which capability_number) case.Capability
+    (pick (eqb e.which local_change_number) (case.LocalChange e.ta_id (is_on e))
+    (pick (eqb e.which mismatch_number) case.Mismatch
+    (pick (eqb e.which hello_number) (case.Hello e.number)
+    (pick (eqb e.which closed_number) case.Closed case.Unknown)))))

@@ -1,7 +1,8 @@
 -- "A limit per application, 0 to 64 (64 until set)". Assumes nothing.
-use Rattle.std.specs.Prelude.{ℕ, ◌-◌, get_or, set, replicate, leb}
+use Rattle.std.specs.Prelude.{ℕ, ◌-◌, get_or, set, replicate, leb, Result}
 use Rattle.choice.specs.Pick.{pick}
-use Rattle.refusals.specs.Refusals.{not_refused, out_of_range, limit_too_high}
+use Rattle.refusals.specs.Refusals.{not_refused, out_of_range, limit_too_high, told_as}
+use Rattle.refusals.specs.declared.Refusal.{Refusal}
 use Rattle.kinds.specs.Kinds.{application_count, known_application}
 use Rattle.row.specs.declared.Limits.{Limits}
 use Rattle.row.specs.declared.Limited.{Limited}
@@ -32,3 +33,7 @@ limited l n limit =
     pick (known_application n)
     (pick (leb limit most_sessions) (record { refusal = not_refused; limits = record { each = set l.each (n - 1) limit } }) (not_set l limit_too_high))
     (not_set l out_of_range)
+
+-- what is answered, as C has it: on a refusal the limits are as they were handed in
+abbrev pub told_limited : Limits → Result Limits Refusal → Limited
+told_limited before = told_as (λ l. record { refusal = not_refused; limits = l }) (not_set before)

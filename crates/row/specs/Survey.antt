@@ -1,12 +1,11 @@
 -- The pass over a row while it goes: whether all so far are sound, and how many have each member of the set that is theirs, in planes. What it finds is said by what
 -- specs/Counting.antt counts; proofs/Surveyed.antt says that the planes come to it. Assumes nothing.
-use Rattle.std.specs.Prelude.{ℕ, zero, suc, ◌+◌, Bool, true, false, List, [], ◌∷◌, set, replicate}
+use Rattle.std.specs.Prelude.{ℕ, zero, suc, ◌+◌, Bool, List, [], ◌∷◌, set, replicate}
 use Rattle.choice.specs.Pick.{pick}
 use Rattle.sets.specs.Set.{has, common, union, minus}
 use Rattle.kinds.specs.Kinds.{application_count}
 use Rattle.session.specs.declared.Session.{Session}
 use Rattle.session.specs.Session.{sound}
-use Rattle.row.specs.declared.Survey.{Survey}
 use Rattle.row.specs.declared.Tally.{Tally}
 use Rattle.row.specs.Row.{all_sound}
 use Rattle.row.specs.Counting.{empty_tally, tallied}
@@ -39,19 +38,16 @@ weighed_each planes zero = replicate application_count 0
 weighed_each planes (suc k) = set (weighed_each planes k) k (weighed planes k)
 
 -- before the first session
-abbrev pub empty_survey : Survey
-empty_survey = record { sound = true; planes = replicate plane_count 0 }
+abbrev pub empty_planes : List ℕ
+empty_planes = replicate plane_count 0
 
--- with one more session, of which the set `of` is counted
-unfoldable pub surveyed_with : Bool → (Session → ℕ) → Survey → Session → Survey
-surveyed_with counting of v s =
-    pick (sound s)
-    (pick counting (record { sound = v.sound; planes = added v.planes (of s) }) v)
-    (record { sound = false; planes = v.planes })
+-- the planes with one more session, of which the set `of` is counted where anything is
+unfoldable pub with_one : Bool → (Session → ℕ) → List ℕ → Session → List ℕ
+with_one counting of planes s = pick counting (added planes (of s)) planes
 
--- what it comes to: counts where they were asked for
-unfoldable pub tally_by : Bool → Survey → Tally
-tally_by counting v = record { sound = v.sound; counts = pick counting (weighed_each v.planes application_count) empty_tally.counts }
+-- what they come to: counts where they were asked for
+unfoldable pub counts_by : Bool → List ℕ → List ℕ
+counts_by counting planes = pick counting (weighed_each planes application_count) empty_tally.counts
 
 -- the sessions before the first that is not sound
 unfoldable pub leading : List Session → List Session

@@ -1,57 +1,67 @@
 // What a pass over a row counts.
-ghost use Rattle.std.specs.Prelude.{◌≡◌, true};
-ghost use Rattle.session.specs.Session.{sound};
-ghost use Rattle.row.specs.Counting.{applications_counted, kinds_counted, counted_for, noted};
+ghost use Rattle.std.specs.Prelude.{◌≡◌};
+ghost use Rattle.row.specs.Counting.{counting, counted_for, noted};
+ghost use Rattle.row.specs.Survey.{with_one, counts_by};
 
-use crate::{Counted, EventNumbers};
-use session::Session;
+use crate::planes::Planes;
+use crate::{APPLICATIONS, Counted, EventNumbers, RowEvent};
+use session::SoundSession;
 
 impl Counted {
-    // The applications that sessions use.
-    pub fn applications() -> Counted
-        ensures { result ≡ applications_counted }
+    // Whether anything is counted.
+    pub(crate) fn counting(self) -> bool
+        ensures { result ≡ counting self }
     {
-        Counted {
-            counting: true,
-            kinds: false,
-        }
-    }
-
-    // The kinds that sessions permit.
-    pub fn kinds() -> Counted
-        ensures { result ≡ kinds_counted }
-    {
-        Counted {
-            counting: true,
-            kinds: true,
+        match self {
+            Counted::Nothing => false,
+            Counted::Applications | Counted::Kinds => true,
         }
     }
 
     // The set of a session that is counted.
-    #[tactic(auto, unfolding(choice::specs::Pick::pick, crate::specs::Counting::noted))]
-    pub(crate) fn noted(self, s: Session) -> u16
-        requires { sound s ≡ true }
+    #[inline(always)]
+    fn noted(self, s: SoundSession) -> u16
         ensures { result ≡ noted self s }
     {
-        if self.kinds {
-            return s.permitted();
+        match self {
+            Counted::Kinds => s.session().permitted(),
+            Counted::Nothing | Counted::Applications => s.used(),
         }
-        s.used_when_sound()
+    }
+
+    // The planes with one more session.
+    #[inline(always)]
+    #[tactic(auto, unfolding(choice::specs::Pick::pick, crate::specs::Survey::with_one))]
+    pub(crate) fn with(self, planes: Planes, s: SoundSession) -> Planes
+        ensures { result.each ≡ with_one (counting self) (noted self) planes.each s }
+    {
+        if self.counting() {
+            return planes.added(self.noted(s));
+        }
+        planes
+    }
+
+    // What the planes come to: counts only where something was counted.
+    #[tactic(auto, unfolding(choice::specs::Pick::pick, crate::specs::Survey::counts_by))]
+    pub(crate) fn counts(self, planes: Planes) -> [u8; APPLICATIONS]
+        ensures { result ≡ counts_by (counting self) planes.each }
+    {
+        if self.counting() {
+            return planes.weighed_each();
+        }
+        [0; APPLICATIONS]
     }
 }
 
 impl EventNumbers {
     // Only an Initialization asks for counts.
-    #[tactic(auto, unfolding(choice::specs::Pick::pick, crate::specs::Counting::counted_for))]
+    #[tactic(auto, unfolding(choice::specs::Pick::pick, crate::specs::Counting::counted_for, crate::specs::Events::case_of))]
     pub fn counted(self) -> Counted
         ensures { result ≡ counted_for self }
     {
-        if self.which == Self::INITIALIZATION {
-            return Counted::applications();
-        }
-        Counted {
-            counting: false,
-            kinds: false,
+        match RowEvent::from(self) {
+            RowEvent::Initialization => Counted::Applications,
+            _ => Counted::Nothing,
         }
     }
 }

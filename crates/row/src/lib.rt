@@ -2,16 +2,17 @@
 // A row of sessions: limits on how many use an application, totals of how many permit a kind, and an event of one session among the others. All of it goes by
 // value but for `tally_of`, which is lent the row, as the C calls are.
 ghost use Rattle.std.specs.Prelude.{◌≡◌, true, ◌≤◌, length};
-ghost use Rattle.refusals.specs.Refusals.{outside_row};
 ghost use Rattle.session.specs.Session.{sound};
-ghost use Rattle.row.specs.Row.{outside, not_counted, not_totalled};
-ghost use Rattle.row.specs.Counting.{noted, totalled_by, room_by};
+ghost use Rattle.row.specs.Row.{outside};
+ghost use Rattle.row.specs.Counting.{counting, noted, totalled_by, room_by};
 ghost use Rattle.row.specs.Limiting.{most_sessions};
 ghost use Rattle.row.specs.Survey.{surveyed};
 
-use crate::planes::PLANES;
+use crate::planes::Planes;
 use kinds::TaId;
-use session::Session;
+use refusals::Refusal;
+use session::{Session, SoundSession};
+use sets::Numbered;
 use totals::{RowAnswer, Totalled, Totals};
 
 mod asked;
@@ -19,6 +20,7 @@ mod counting;
 mod events;
 mod limiting;
 mod planes;
+mod told;
 
 // How many applications there are: a limit and a count for each.
 const APPLICATIONS: usize = TaId::COUNT as usize;
@@ -26,6 +28,7 @@ const APPLICATIONS: usize = TaId::COUNT as usize;
 // How many sessions a row may have.
 pub const MOST_SESSIONS: usize = 64;
 
+// C's structs, here and below: arrays by number, a refusal's number beside what is answered, and an event as numbers.
 // Limits by application: TA-Id n at place n - 1.
 #[repr(C)]
 #[derive(Clone, Copy)]
@@ -33,7 +36,7 @@ pub struct Limits {
     pub each: [u8; APPLICATIONS],
 }
 
-// The limits with one of them set, or why not.
+// The limits with one of them set, or as they were and why.
 #[repr(C)]
 #[derive(Clone, Copy)]
 pub struct Limited {
@@ -67,27 +70,35 @@ pub struct EventNumbers {
     pub number: u32,
 }
 
+// An event by its case.
+#[derive(Clone, Copy, Debug, PartialEq, Eq)]
+pub(crate) enum RowEvent {
+    Initialization,
+    Capability,
+    LocalChange { ta_id: u32, on: bool },
+    Mismatch,
+    Hello { number: u32 },
+    Closed,
+    Unknown,
+}
+
 // What a pass over a row counts: nothing, the applications that sessions use, or the kinds that they permit.
-#[derive(Clone, Copy)]
-pub struct Counted {
-    pub(crate) counting: bool,
-    pub(crate) kinds: bool,
+#[derive(Clone, Copy, Debug, PartialEq, Eq)]
+pub enum Counted {
+    Nothing,
+    Applications,
+    Kinds,
 }
 
 // What one pass over a row finds: whether all are sound, and how many use each application, or permit each kind.
+// No Result: what `tally_of` promises names the counts of a row that is not sound, and `count_by`, `recount_by` and `event_in` are handed such a tally.
 #[derive(Clone, Copy)]
 pub struct Tally {
     pub sound: bool,
     pub counts: [u8; APPLICATIONS],
 }
 
-// What the pass keeps while it goes: whether all so far are sound, and the counts in planes.
-#[derive(Clone, Copy)]
-pub(crate) struct Survey {
-    pub(crate) sound: bool,
-    pub(crate) planes: [u16; PLANES],
-}
-
+// Its arguments stand one by one, not in a struct: docs/PROMISES.md names this function, and each argument has a type that C hands in.
 // The event of one session of the row, decided by what the pass over all of them found and then by the totals, and what it writes.
 #[tactic(auto, unfolding(choice::specs::Pick::pick, crate::specs::Counting::room_by))]
 pub fn event_in(
@@ -112,39 +123,44 @@ pub fn event_in(
 pub fn outside(totals: Totals) -> RowAnswer
     ensures { result ≡ outside totals }
 {
-    let after = Session::none().refused(refusals::OUTSIDE_ROW);
+    let after = Session::none().refused(Refusal::OutsideRow.into());
     let answer = after.answer;
     RowAnswer { answer, totals }
 }
 
-// The count where the row is none.
-pub fn uncounted() -> Count
-    ensures { result ≡ not_counted outside_row }
+// What is counted is no closure: the contracts name it, by `counting counted` and `noted counted`.
+// The pass over the row, which is the only loop over one. It ends at the first session that is not sound.
+#[inline(always)]
+#[tactic(auto, using(crate::proofs::Surveyed::onward_surveyed, crate::proofs::Surveyed::onward_more, crate::proofs::Surveyed::onward_stop, crate::proofs::Surveyed::onward_past), unfolding(choice::specs::Pick::pick))]
+fn pass(row: &[Session], counted: Counted) -> Tally
+    requires { length row.now ≤ most_sessions }
+    ensures { result ≡ surveyed (counting counted) (noted counted) row.now }
 {
-    Count {
-        refusal: refusals::OUTSIDE_ROW,
-        count: 0,
+    let mut planes = Planes::empty();
+    for &s in row {
+        let Ok(s) = SoundSession::try_from(s) else {
+            return Tally {
+                sound: false,
+                counts: counted.counts(planes),
+            };
+        };
+        planes = counted.with(planes, s);
+    }
+    Tally {
+        sound: true,
+        counts: counted.counts(planes),
     }
 }
 
-// The totals where the row is none.
-pub fn untotalled() -> RowTotals
-    ensures { result ≡ not_totalled outside_row }
-{
-    RowTotals::refused(refusals::OUTSIDE_ROW)
-}
-
-// The pass over the row, which is the only loop over one. It ends at the first session that is not sound.
-#[tactic(auto, using(crate::proofs::Surveyed::onward_surveyed, crate::proofs::Surveyed::onward_end), unfolding(choice::specs::Pick::pick, crate::proofs::Surveyed::onward))]
+/// What a pass over the row finds: whether all are sound, and how many sessions have each member of what is counted, an application that they use or a kind
+/// that they permit. The pass is put in place for each, so that it does not ask at every session what is counted.
 pub fn tally_of(row: &[Session], counted: Counted) -> Tally
     requires { length row.now ≤ most_sessions }
-    ensures { result ≡ surveyed counted.counting (noted counted) row.now }
+    ensures { result ≡ surveyed (counting counted) (noted counted) row.now }
 {
-    let mut survey = Survey::empty();
-    let mut k = 0;
-    while (k < row.len()) & survey.sound {
-        survey = survey.with(row[k], counted);
-        k += 1;
+    match counted {
+        Counted::Nothing => pass(row, Counted::Nothing),
+        Counted::Applications => pass(row, Counted::Applications),
+        Counted::Kinds => pass(row, Counted::Kinds),
     }
-    Tally::tally(survey, counted)
 }

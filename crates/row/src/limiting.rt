@@ -1,9 +1,11 @@
 // A limit for each application.
 ghost use Rattle.std.specs.Prelude.{◌≡◌};
-ghost use Rattle.row.specs.Limiting.{no_limits, capped, limited};
+ghost use Rattle.row.specs.Limiting.{no_limits, capped, limited, told_limited};
 
-use crate::{APPLICATIONS, Limited, Limits};
+use crate::{APPLICATIONS, Limits};
 use kinds::TaId;
+use refusals::Refusal;
+use sets::Numbered;
 
 impl Limits {
     // No row has more sessions: as a limit is kept, and as it is handed in.
@@ -22,28 +24,17 @@ impl Limits {
 
     // The limit of one application set.
     #[tactic(auto, using(sets::proofs::Switches::numbered_is), unfolding(choice::specs::Pick::pick, crate::specs::Limiting::limited))]
-    pub fn limited(mut self, app: TaId, limit: u32) -> Limited
-        ensures { result ≡ limited self app.0 limit }
+    pub fn limited(mut self, app: TaId, limit: u32) -> Result<Limits, Refusal>
+        ensures { told_limited self result ≡ limited self app.0 limit }
     {
-        let n = app.0;
-        if app.is_known() {
-            if limit <= Self::HIGHEST_HANDED_IN {
-                let k = (n - 1) as usize;
-                self.each[k] = limit as u8;
-                return Limited {
-                    refusal: refusals::NOT_REFUSED,
-                    limits: self,
-                };
-            }
-            return Limited {
-                refusal: refusals::LIMIT_TOO_HIGH,
-                limits: self,
-            };
+        if !app.is_known() {
+            return Err(Refusal::OutOfRange);
         }
-        Limited {
-            refusal: refusals::OUT_OF_RANGE,
-            limits: self,
+        if limit > Self::HIGHEST_HANDED_IN {
+            return Err(Refusal::LimitTooHigh);
         }
+        self.each[(app.0 - 1) as usize] = limit as u8;
+        Ok(self)
     }
 }
 
@@ -52,8 +43,5 @@ impl Limits {
 pub(crate) fn capped(limit: u8) -> u8
     ensures { result ≡ capped limit }
 {
-    if limit <= Limits::HIGHEST {
-        return limit;
-    }
-    Limits::HIGHEST
+    limit.min(Limits::HIGHEST)
 }

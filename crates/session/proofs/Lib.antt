@@ -9,3 +9,5 @@ pub mod Steps
 pub mod PermittedMeans
 pub mod Capabilities
 pub mod Wishes
+pub mod Told
+pub mod Octets

@@ -1,14 +1,14 @@
 -- Creation: "a fresh session has state Ready and no Hello recorded". Assumes nothing.
-use Rattle.std.specs.Prelude.{ℕ, Bool, ◌&&◌}
+use Rattle.std.specs.Prelude.{ℕ, Bool, ◌&&◌, Result, Ok, Err}
 use Rattle.choice.specs.Pick.{pick}
 use Rattle.sets.specs.Set.{one, union, below}
-use Rattle.refusals.specs.Refusals.{not_refused, out_of_range}
+use Rattle.refusals.specs.declared.Refusal.{Refusal}
+use Rattle.refusals.specs.declared.Refusal.TheVariants.{OutOfRange}
+use Rattle.refusals.specs.Refusals.{number_told}
 use Rattle.kinds.specs.Kinds.{application_count, kind_count, capability_count}
 use Rattle.wishes.specs.Wishes.{sound_wishes}
 use Rattle.session.specs.declared.Session.{Session}
 use Rattle.session.specs.declared.Settings.{Settings}
-use Rattle.session.specs.declared.Created.{Created}
-use Rattle.session.specs.declared.Created.TheVariants.{Fresh, Refused}
 use Rattle.session.specs.Session.{initiating_bit, active_bit, uses_tac_bit, drops_bit}
 use Rattle.session.specs.With.{fresh}
 
@@ -27,14 +27,13 @@ fresh_by t = fresh (role_flags t.initiating t.active t.uses_tac t.drops) t.prote
 
 -- 6 for "a set with bits beyond these": kinds 0 to 9, applications 1 to 13, of our wishes, which stand beside the session, Apps 1 to 4, and of our
 -- capabilities "bits beyond the three"
-unfoldable pub created : Settings → Created
+unfoldable pub created : Settings → Result Session Refusal
 created t =
     pick
     (below kind_count t.protected_kinds && (below application_count t.enabled && (sound_wishes t.wishes && below capability_count t.capabilities)))
-    (Fresh (fresh_by t))
-    (Refused out_of_range)
+    (Ok (fresh_by t))
+    (Err OutOfRange)
 
--- the refusal number of each case, "0 for none"
-abbrev pub refusal_of : Created → ℕ
-refusal_of (Fresh s) = not_refused
-refusal_of (Refused n) = n
+-- the refusal's number, "0 for none"
+abbrev pub refusal_of : {A : Type 0} → Result A Refusal → ℕ
+refusal_of = number_told

@@ -1,10 +1,13 @@
 -- What an event is decided to come to, and the answer that it then gives. All of it goes by value, and no octet is written. Assumes nothing.
-use Rattle.std.specs.Prelude.{ℕ}
+use Rattle.std.specs.Prelude.{ℕ, Result}
 use Rattle.choice.specs.Pick.{pick}
 use Rattle.sets.specs.Set.{minus}
-use Rattle.refusals.specs.Refusals.{not_refused}
+use Rattle.refusals.specs.declared.Refusal.{Refusal}
+use Rattle.refusals.specs.Refusals.{not_refused, told_as}
 use Rattle.session.specs.declared.Session.{Session}
 use Rattle.session.specs.declared.After.{After}
+use Rattle.session.specs.declared.decisions.Outcome.{Outcome}
+use Rattle.session.specs.declared.decisions.Outcome.TheVariants.{Done as DoneOutcome, Unchanged as UnchangedOutcome, Mismatch as MismatchOutcome, AtLimit as AtLimitOutcome}
 use Rattle.session.specs.Session.{nothing_common, permitted}
 use Rattle.session.specs.With.{mismatched, with_next_number}
 use Rattle.session.specs.Limits.{at_limit}
@@ -22,9 +25,20 @@ outcome_mismatch = 2
 abbrev pub outcome_at_limit : ℕ
 outcome_at_limit = 3
 
+-- the number of each outcome
+abbrev pub outcome_number : Outcome → ℕ
+outcome_number DoneOutcome = outcome_done
+outcome_number UnchangedOutcome = outcome_unchanged
+outcome_number MismatchOutcome = outcome_mismatch
+outcome_number AtLimitOutcome = outcome_at_limit
+
 -- "A refusal loses, gains and writes nothing", and the session stays
 abbrev pub refused : Session → ℕ → After
 refused s n = record { session = s; answer = record { refusal = n; outcome = outcome_done; lost = 0; gained = 0; written = 0 } }
+
+-- what an event that may be refused comes to
+abbrev pub after_of : Session → Result After Refusal → After
+after_of s = told_as (λ after. after) (refused s)
 
 -- "Unchanged, nothing else happens"
 abbrev pub unchanged : Session → After

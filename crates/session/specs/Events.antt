@@ -1,6 +1,6 @@
--- States and events: what each event is decided to come to, by the tests of document 01 in its order. "Order: 10, 7, 1, then TLVs from the left";
--- "local change: 10, 6, Unchanged, 9, 8"; a wish by L2: 10, 15, Unchanged, 7, 9, 8. Assumes nothing.
-use Rattle.std.specs.Prelude.{ℕ, ◌^◌, ◌<◌, Bool, true, false, not, ◌&&◌, ◌||◌, List, [], ◌∷◌, ◌==◌, nat_le, nat_lt}
+-- States and events: what each event is decided to come to, by its tests in their order. "Order: 10, 7, 1, then TLVs from the left";
+-- "local change: 10, 6, Unchanged, 9, 8"; a wish: 10, 15, Unchanged, 7, 9, 8. Assumes nothing.
+use Rattle.std.specs.Prelude.{ℕ, ◌^◌, ◌<◌, Bool, true, false, not, ◌&&◌, ◌||◌, Option, None, Some, List, [], ◌∷◌, ◌==◌, nat_le, nat_lt}
 use Rattle.choice.specs.Pick.{pick}
 use Rattle.sets.specs.Set.{one, union, minus, holds}
 use Rattle.refusals.specs.Refusals.{not_refused, out_of_range, wrong_state, no_room, peer_not_dynamic, not_sound, unknown_app}
@@ -11,7 +11,7 @@ use Rattle.area.specs.Area.{read_area, part, s_bit}
 use Rattle.lists.specs.Tac.{tac_list}
 use Rattle.lists.specs.Sac.{sac_list}
 use Rattle.message.specs.declared.Message.{Message}
-use Rattle.message.specs.declared.Message.TheVariants.{NoMessage, Change, Wish as WishMessage}
+use Rattle.message.specs.declared.Message.TheVariants.{Change, Wish as WishMessage}
 use Rattle.message.specs.Message.{change_length, wish_length, room_with}
 use Rattle.wishes.specs.Wishes.{sound_wishes}
 use Rattle.session.specs.declared.Session.{Session}
@@ -185,15 +185,15 @@ run s [] = s
 run s (e ∷ es) = run (step s e).session es
 
 -- ---- what is written, under the number that the session had
-abbrev pub message_for : Session → Event → Message
-message_for s (Initialization area below_limit) = NoMessage
-message_for s (Capability area) = NoMessage
-message_for s (LocalChange n on room) = Change s.next n on
-message_for s (Wish wishes n disable room) = WishMessage s.next n disable
-message_for s Mismatch = NoMessage
-message_for s (Hello number) = NoMessage
-message_for s Closed = NoMessage
-message_for s Unknown = NoMessage
+abbrev pub message_for : Session → Event → Option Message
+message_for s (Initialization area below_limit) = None
+message_for s (Capability area) = None
+message_for s (LocalChange n on room) = Some (Change s.next n on)
+message_for s (Wish wishes n disable room) = Some (WishMessage s.next n disable)
+message_for s Mismatch = None
+message_for s (Hello number) = None
+message_for s Closed = None
+message_for s Unknown = None
 
 -- the room after the event: the message where the answer says that octets were written, else as found
 unfoldable pub room_after : Session → Event → List ℕ → List ℕ

@@ -1,15 +1,26 @@
 -- The questions that change nothing: "creation and the question about a kind: 10, 6"; "retry interval: 10; refused, it is 0". Assumes nothing.
-use Rattle.std.specs.Prelude.{ℕ, Bool, not, ◌&&◌, nat_lt}
+use Rattle.std.specs.Prelude.{ℕ, Bool, not, ◌&&◌, nat_lt, Option, None, Some, Result}
 use Rattle.choice.specs.Pick.{pick}
 use Rattle.sets.specs.Set.{has}
-use Rattle.refusals.specs.Refusals.{not_refused, out_of_range, not_sound}
+use Rattle.refusals.specs.declared.Refusal.{Refusal}
+use Rattle.refusals.specs.Refusals.{not_refused, out_of_range, not_sound, told_as}
 use Rattle.kinds.specs.Kinds.{kind_count, opened, disables, barred}
 use Rattle.session.specs.declared.Session.{Session}
 use Rattle.session.specs.declared.Permission.{Permission}
 use Rattle.session.specs.declared.Kinds.{Kinds}
 use Rattle.session.specs.declared.Reason.{Reason}
 use Rattle.session.specs.declared.Retry.{Retry}
+use Rattle.session.specs.declared.questions.Obstacle.{Obstacle}
+use Rattle.session.specs.declared.questions.Obstacle.TheVariants.{NotOpen, DisabledByPeer, NotEnabled, NotListed, CapabilityNotOurs, CapabilityNotTheirs}
 use Rattle.session.specs.Session.{is_open, is_held, in_force, negotiated, sound, permitted}
+
+-- refused, no kind
+abbrev pub no_kind : ℕ → Kinds
+no_kind n = record { refusal = n; kinds = 0 }
+
+-- what C is told
+abbrev pub kinds_of : Result ℕ Refusal → Kinds
+kinds_of = told_as (λ kinds. record { refusal = not_refused; kinds = kinds }) no_kind
 
 -- the set of the permitted kinds
 unfoldable pub permitted_kinds : Session → Kinds
@@ -19,6 +30,10 @@ permitted_kinds s =
 -- refused, no permission
 abbrev pub no_permission : ℕ → Permission
 no_permission n = record { refusal = n; permitted = 0 }
+
+-- what C is told
+abbrev pub permission_of : Result Bool Refusal → Permission
+permission_of = told_as (λ permitted. record { refusal = not_refused; permitted = pick permitted 1 0 }) no_permission
 
 -- one kind: 6 for "a kind over 9"
 unfoldable pub permission : Session → ℕ → Permission
@@ -56,6 +71,19 @@ why_not_ours = 5
 abbrev pub why_not_theirs : ℕ
 why_not_theirs = 6
 
+-- the number of each obstacle, and of none
+abbrev pub number_of : Obstacle → ℕ
+number_of NotOpen = why_not_open
+number_of DisabledByPeer = why_disabled_by_peer
+number_of NotEnabled = why_not_enabled
+number_of NotListed = why_not_listed
+number_of CapabilityNotOurs = why_not_ours
+number_of CapabilityNotTheirs = why_not_theirs
+
+abbrev pub reason_number : Option Obstacle → ℕ
+reason_number None = why_permitted
+reason_number (Some obstacle) = number_of obstacle
+
 -- negotiation is in force and none of these applications opens the kind
 unfoldable pub unopened : Session → ℕ → ℕ → Bool
 unopened s applications kind = in_force s && not (has (opened s.protects applications) kind)
@@ -75,6 +103,10 @@ why s kind =
 abbrev pub no_reason : ℕ → Reason
 no_reason n = record { refusal = n; reason = why_permitted }
 
+-- what C is told
+abbrev pub reason_of : Result (Option Obstacle) Refusal → Reason
+reason_of = told_as (λ obstacle. record { refusal = not_refused; reason = reason_number obstacle }) no_reason
+
 -- of one kind, refused as the question whether it is permitted
 unfoldable pub why_not : Session → ℕ → Reason
 why_not s kind =
@@ -85,6 +117,14 @@ why_not s kind =
 -- "The retry interval is 65,535 in Held and 0 otherwise"
 abbrev pub interval_in_held : ℕ
 interval_in_held = 65535
+
+-- refused, no interval
+abbrev pub no_interval : ℕ → Retry
+no_interval n = record { refusal = n; interval = 0 }
+
+-- what C is told
+abbrev pub retry_of : Result ℕ Refusal → Retry
+retry_of = told_as (λ interval. record { refusal = not_refused; interval = interval }) no_interval
 
 unfoldable pub retry_interval : Session → Retry
 retry_interval s =

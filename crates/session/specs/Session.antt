@@ -5,6 +5,10 @@ use Rattle.choice.specs.Pick.{pick, only, unless}
 use Rattle.sets.specs.Set.{has, one, common, minus, empty, below}
 use Rattle.kinds.specs.Kinds.{application_count, kind_count, app_count, capability_count, all_kinds, opens, controlled, needed, opened, disables, barred, Some}
 use Rattle.session.specs.declared.Session.{Session}
+use Rattle.session.specs.declared.state.State.{State}
+use Rattle.session.specs.declared.state.State.TheVariants.{Ready, Open, Held, Gone}
+use Rattle.session.specs.declared.state.Flag.{Flag}
+use Rattle.session.specs.declared.state.Flag.TheVariants.{Initiating, Active, UsesTac, Drops, InForce, Dynamic, Recorded}
 
 -- "state (1: Ready 0, Open 1, Held 2, Gone 3)"; a session that is none has no state of these
 abbrev pub state_ready : ℕ
@@ -21,6 +25,13 @@ state_gone = 3
 
 abbrev pub no_state : ℕ
 no_state = 255
+
+-- the number of each state
+abbrev pub state_number : State → ℕ
+state_number Ready = state_ready
+state_number Open = state_open
+state_number Held = state_held
+state_number Gone = state_gone
 
 abbrev pub is_ready : Session → Bool
 is_ready s = s.state == state_ready
@@ -58,6 +69,16 @@ recorded_bit = 6
 
 abbrev pub flag_count : ℕ
 flag_count = 7
+
+-- the bit of each flag
+abbrev pub flag_bit : Flag → ℕ
+flag_bit Initiating = initiating_bit
+flag_bit Active = active_bit
+flag_bit UsesTac = uses_tac_bit
+flag_bit Drops = drops_bit
+flag_bit InForce = in_force_bit
+flag_bit Dynamic = dynamic_bit
+flag_bit Recorded = recorded_bit
 
 abbrev pub initiating : Session → Bool
 initiating s = has s.flags initiating_bit
@@ -181,7 +202,7 @@ pub record Narrow (s : Session) : Type 0 where
 unfoldable pub permitted_by_base : Session → ℕ
 permitted_by_base s = pick (is_open s) (minus (pick (in_force s) (opened s.protects (negotiated s)) all_kinds) (disables s.disabled)) 0
 
--- and by L4 any capability that the kind needs is "held by both ends, whether or not negotiation is in force; kinds opened by Session Protection too"
+-- and besides any capability that the kind needs is "held by both ends, whether or not negotiation is in force; kinds opened by Session Protection too"
 unfoldable pub permitted : Session → ℕ
 permitted s = minus (permitted_by_base s) (barred (held s))
 

@@ -1,31 +1,36 @@
 // The connection closed.
-ghost use Rattle.std.specs.Prelude.{◌≡◌, true};
-ghost use Rattle.session.specs.Session.{sound};
+ghost use Rattle.std.specs.Prelude.{◌≡◌};
 ghost use Rattle.session.specs.Events.{step, Closed};
 
-use crate::{After, Session};
+use crate::decisions::Outcome;
+use crate::{After, Session, SoundSession, State};
+use refusals::Refusal;
 
 impl Session {
-    // Connection closed (Open only), of a sound session: Ready.
-    #[tactic(auto, using(crate::proofs::Shapes::ready_permits), unfolding(choice::specs::Pick::pick, crate::specs::Decisions::settled, crate::specs::Events::on_closed))]
-    pub fn closed_when_sound(self) -> After
-        requires { sound self ≡ true }
-        ensures { result ≡ step self Closed }
-    {
-        if self.state == Self::OPEN {
-            return self.only_lost(self.back_to_ready(), Self::DONE);
-        }
-        self.refused(refusals::WRONG_STATE)
-    }
-
-    // Connection closed.
+    /// Connection closed, of a session that may not be sound.
     #[tactic(auto, unfolding(choice::specs::Pick::pick, crate::specs::Decisions::settled, crate::specs::Events::on_closed))]
     pub fn closed(self) -> After
         ensures { result ≡ step self Closed }
     {
-        if self.sound() {
-            return self.closed_when_sound();
+        // Not by `once_sound`: so a closed connection takes 101 instructions, and 100 at most is the bar.
+        let Ok(sound) = SoundSession::try_from(self) else {
+            return self.refuse(Refusal::NotSound);
+        };
+        sound.closed()
+    }
+}
+
+impl SoundSession {
+    /// Connection closed: refused in any state but Open. The session is Ready.
+    #[tactic(auto, using(crate::proofs::Shapes::ready_permits), unfolding(choice::specs::Pick::pick, crate::specs::Decisions::settled, crate::specs::Events::on_closed))]
+    #[inline(always)]
+    pub fn closed(self) -> After
+        ensures { result ≡ step self Closed }
+    {
+        let s = self.session;
+        if s.is(State::Open) {
+            return s.only_lost(s.back_to_ready(), Outcome::Done);
         }
-        self.refused(refusals::NOT_SOUND)
+        s.refuse(Refusal::WrongState)
     }
 }

@@ -1,20 +1,36 @@
 // The answers: one function for each thing that an event can be decided to come to, and no event computes an answer by itself.
 ghost use Rattle.std.specs.Prelude.{◌≡◌, false};
+ghost use Rattle.refusals.specs.Refusals.{number_of};
 ghost use Rattle.session.specs.Session.{in_force, permitted};
-ghost use Rattle.session.specs.Decisions.{outcome_done, refused, unchanged, answered, settled, Done, AsMismatch, Negotiate, Admit, Send};
+ghost use Rattle.session.specs.Decisions.{outcome_done, outcome_number, refused, after_of, unchanged, answered, settled, Done, AsMismatch, Negotiate, Admit, Send};
 
-use crate::{After, Answer, Session};
+use crate::{After, Answer, Flag, Session};
+use refusals::Refusal;
+
+// What came of an event that is not refused.
+#[derive(Clone, Copy)]
+pub(crate) enum Outcome {
+    Done = 0,
+    Unchanged = 1,
+    Mismatch = 2,
+    AtLimit = 3,
+}
+
+impl Answer {
+    // Not refused, and nothing lost, gained or written.
+    const DONE: Answer = Answer {
+        refusal: refusals::NOT_REFUSED,
+        outcome: Outcome::Done as u8,
+        lost: 0,
+        gained: 0,
+        written: 0,
+    };
+}
 
 impl Session {
-    pub(crate) const DONE: u8 = 0;
-
-    const UNCHANGED: u8 = 1;
-
-    const MISMATCH: u8 = 2;
-
-    const AT_LIMIT: u8 = 3;
-
-    // Refused with a number: the session stays.
+    // A number and no `Refusal`: docs/PROMISES.md names this function, and it may be handed any.
+    /// Refused with a number: the session stays, and nothing is lost, gained or written.
+    #[inline(always)]
     pub fn refused(self, n: u8) -> After
         ensures { result ≡ refused self n }
     {
@@ -22,11 +38,27 @@ impl Session {
             session: self,
             answer: Answer {
                 refusal: n,
-                outcome: Self::DONE,
-                lost: 0,
-                gained: 0,
-                written: 0,
+                ..Answer::DONE
             },
+        }
+    }
+
+    // Refused: the session stays. The one place where a refusal of a session's own event becomes its number.
+    #[inline(always)]
+    pub(crate) fn refuse(self, refusal: Refusal) -> After
+        ensures { result ≡ refused self (number_of refusal) }
+    {
+        self.refused(refusal.into())
+    }
+
+    // What C is told of an event that may be refused.
+    #[inline(always)]
+    pub(crate) fn told(self, after: Result<After, Refusal>) -> After
+        ensures { result ≡ after_of self after }
+    {
+        match after {
+            Ok(after) => after,
+            Err(refusal) => self.refuse(refusal),
         }
     }
 
@@ -37,53 +69,49 @@ impl Session {
         After {
             session: self,
             answer: Answer {
-                refusal: refusals::NOT_REFUSED,
-                outcome: Self::UNCHANGED,
-                lost: 0,
-                gained: 0,
-                written: 0,
+                outcome: Outcome::Unchanged as u8,
+                ..Answer::DONE
             },
         }
     }
 
     // To a session that permits what this one does: nothing is lost or gained.
     #[tactic(auto, using(crate::proofs::Shapes::unmoved), unfolding(choice::specs::Pick::pick))]
-    pub(crate) fn unmoved(self, after: Session, outcome: u8, written: u16) -> After
+    #[inline(always)]
+    pub(crate) fn unmoved(self, after: Session, outcome: Outcome, written: u16) -> After
         requires { permitted after ≡ permitted self }
-        ensures { result ≡ answered self after outcome written }
+        ensures { result ≡ answered self after (outcome_number outcome) written }
     {
         After {
             session: after,
             answer: Answer {
-                refusal: refusals::NOT_REFUSED,
-                outcome,
-                lost: 0,
-                gained: 0,
+                outcome: outcome as u8,
                 written,
+                ..Answer::DONE
             },
         }
     }
 
     // To a session that permits nothing: all that was permitted is lost.
     #[tactic(auto, using(crate::proofs::Shapes::only_lost), unfolding(choice::specs::Pick::pick))]
-    pub(crate) fn only_lost(self, after: Session, outcome: u8) -> After
+    #[inline(always)]
+    pub(crate) fn only_lost(self, after: Session, outcome: Outcome) -> After
         requires { permitted after ≡ 0 }
-        ensures { result ≡ answered self after outcome 0 }
+        ensures { result ≡ answered self after (outcome_number outcome) 0 }
     {
         After {
             session: after,
             answer: Answer {
-                refusal: refusals::NOT_REFUSED,
-                outcome,
+                outcome: outcome as u8,
                 lost: self.permitted(),
-                gained: 0,
-                written: 0,
+                ..Answer::DONE
             },
         }
     }
 
     // From a session that permits nothing: all that is permitted is gained.
     #[tactic(auto, using(crate::proofs::Shapes::only_gained), unfolding(choice::specs::Pick::pick))]
+    #[inline(always)]
     pub(crate) fn only_gained(self, after: Session) -> After
         requires { permitted self ≡ 0 }
         ensures { result ≡ answered self after outcome_done 0 }
@@ -91,17 +119,15 @@ impl Session {
         After {
             session: after,
             answer: Answer {
-                refusal: refusals::NOT_REFUSED,
-                outcome: Self::DONE,
-                lost: 0,
                 gained: after.permitted(),
-                written: 0,
+                ..Answer::DONE
             },
         }
     }
 
     // From this session to the one after the event, whatever they permit: told what each does. Whoever asks computes that itself, so that it is put in place.
     #[tactic(auto, unfolding(choice::specs::Pick::pick, crate::specs::Decisions::answered))]
+    #[inline(always)]
     fn moved(self, had: u16, after: Session, has: u16, written: u16) -> After
         requires { (had ≡ permitted self) × (has ≡ permitted after) }
         ensures { result ≡ answered self after outcome_done written }
@@ -109,17 +135,17 @@ impl Session {
         After {
             session: after,
             answer: Answer {
-                refusal: refusals::NOT_REFUSED,
-                outcome: Self::DONE,
                 lost: sets::minus(had, has),
                 gained: sets::minus(has, had),
                 written,
+                ..Answer::DONE
             },
         }
     }
 
     // To another session, with nothing asked of it.
     #[tactic(auto, unfolding(choice::specs::Pick::pick, crate::specs::Decisions::settled))]
+    #[inline(always)]
     pub(crate) fn done(self, after: Session) -> After
         ensures { result ≡ settled self (Done after) }
     {
@@ -130,14 +156,16 @@ impl Session {
 
     // To what a mismatch leaves of a session.
     #[tactic(auto, using(crate::proofs::Shapes::mismatched_permits), unfolding(choice::specs::Pick::pick, crate::specs::Decisions::settled))]
+    #[inline(always)]
     pub(crate) fn as_mismatch(self, after: Session) -> After
         ensures { result ≡ settled self (AsMismatch after) }
     {
-        self.only_lost(after.mismatched(), Self::MISMATCH)
+        self.only_lost(after.mismatched(), Outcome::Mismatch)
     }
 
     // To another session, or a mismatch where negotiation is in force and nothing is common.
     #[tactic(auto, unfolding(choice::specs::Pick::pick, crate::specs::Decisions::settled))]
+    #[inline(always)]
     pub(crate) fn negotiate(self, after: Session) -> After
         ensures { result ≡ settled self (Negotiate after) }
     {
@@ -147,48 +175,38 @@ impl Session {
         self.done(after)
     }
 
-    // The same where nothing is permitted yet: the session opens, or it is a mismatch.
-    #[tactic(auto, using(crate::proofs::Shapes::mismatched_permits), unfolding(choice::specs::Pick::pick, crate::specs::Decisions::settled))]
-    pub(crate) fn enter(self, after: Session) -> After
-        requires { permitted self ≡ 0 }
-        ensures { result ≡ settled self (Negotiate after) }
-    {
-        if after.nothing_common() {
-            return self.unmoved(after.mismatched(), Self::MISMATCH, 0);
-        }
-        self.only_gained(after)
-    }
-
-    // The same, or turned away by a limit: that leaves the state of a mismatch.
+    // The same where nothing is permitted yet, or turned away by a limit: that leaves the state of a mismatch.
     #[tactic(auto, using(crate::proofs::Shapes::mismatched_permits), unfolding(choice::specs::Pick::pick, crate::specs::Decisions::settled, crate::specs::Limits::at_limit, sets::specs::Set::empty))]
+    #[inline(always)]
     pub(crate) fn admit(self, after: Session, below_limit: u16) -> After
         requires { permitted self ≡ 0 }
         ensures { result ≡ settled self (Admit after below_limit) }
     {
         if after.nothing_common() {
-            return self.unmoved(after.mismatched(), Self::MISMATCH, 0);
+            return self.unmoved(after.mismatched(), Outcome::Mismatch, 0);
         }
-        if after.in_force() & (sets::common(after.negotiated(), below_limit) == 0) {
-            return self.unmoved(after.mismatched(), Self::AT_LIMIT, 0);
+        if after.has(Flag::InForce) & (sets::common(after.negotiated(), below_limit) == 0) {
+            return self.unmoved(after.mismatched(), Outcome::AtLimit, 0);
         }
         self.only_gained(after)
     }
 
     // The same as negotiate, and a message is written, which takes the next number. Out of force a change moves no kind.
     #[tactic(auto, unfolding(choice::specs::Pick::pick, crate::specs::Decisions::settled, crate::specs::Session::nothing_common, sets::specs::Set::empty, crate::specs::Session::permitted, crate::specs::Session::permitted_by_base))]
+    #[inline(always)]
     pub(crate) fn send(self, after: Session, written: u16) -> After
         requires { in_force after ≡ false → permitted after ≡ permitted self }
         ensures { result ≡ settled self (Send after written) }
     {
-        if after.in_force() {
-            if after.negotiated() == 0 {
-                return self.as_mismatch(after);
-            }
-            let next = after.with_next_number();
-            let had = self.permitted();
-            let has = next.permitted();
-            return self.moved(had, next, has, written);
+        if !after.has(Flag::InForce) {
+            return self.unmoved(after.with_next_number(), Outcome::Done, written);
         }
-        self.unmoved(after.with_next_number(), Self::DONE, written)
+        if after.negotiated() == 0 {
+            return self.as_mismatch(after);
+        }
+        let next = after.with_next_number();
+        let had = self.permitted();
+        let has = next.permitted();
+        self.moved(had, next, has, written)
     }
 }

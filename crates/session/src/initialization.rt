@@ -2,13 +2,15 @@
 ghost use Rattle.std.specs.Prelude.{◌≡◌, true, length};
 ghost use Rattle.choice.specs.Pick.{pick};
 ghost use Rattle.kinds.specs.Kinds.{all_applications};
+ghost use Rattle.area.specs.Found.{told};
 ghost use Rattle.area.specs.Parts.{Inside};
 ghost use Rattle.lists.specs.Tac.{tac_list};
-ghost use Rattle.session.specs.Session.{sound};
+ghost use Rattle.session.specs.Decisions.{after_of};
 ghost use Rattle.session.specs.Events.{takes_tac, after_initialization, step, Initialization};
 
-use crate::{After, Session};
-use area::Reading;
+use crate::{After, Flag, Session, SoundSession, State};
+use area::Found;
+use refusals::Refusal;
 
 // The peer's list in an Initialization: none where TAC is not taken.
 fn list_of(takes: bool, value: &[u8]) -> u16
@@ -21,18 +23,22 @@ fn list_of(takes: bool, value: &[u8]) -> u16
 }
 
 impl Session {
+    // Every application, which is below its limit where there is none.
+    const ALL_APPLICATIONS: u16 = Self::APPLICATIONS_END - 1;
+
     // The session uses TAC and the area holds one.
-    pub(crate) fn takes_tac(self, found: Reading) -> bool
-        ensures { result ≡ takes_tac self found }
+    pub(crate) fn takes_tac(self, found: Found) -> bool
+        ensures { result ≡ takes_tac self (told found) }
     {
-        self.uses_tac() & (0 < found.tac.len)
+        self.has(Flag::UsesTac) & (0 < found.tac.len)
     }
 
     // Open by what the area holds, before any mismatch is looked for.
     #[tactic(auto, unfolding(choice::specs::Pick::pick, crate::specs::Events::after_initialization))]
-    fn after_initialization(self, area: &[u8], found: Reading) -> Session
-        requires { Inside (length area.now) found }
-        ensures { result ≡ after_initialization self area.now found }
+    #[inline(always)]
+    fn after_initialization(self, area: &[u8], found: Found) -> Session
+        requires { Inside (length area.now) (told found) }
+        ensures { result ≡ after_initialization self area.now (told found) }
     {
         let takes = self.takes_tac(found);
         let tac = found.tac;
@@ -42,50 +48,45 @@ impl Session {
         let disabled = lists::sac_list(area::part_within(area, sac), true, 0);
         let listed = list_of(takes, area::part_within(area, tac));
         Session {
-            state: Self::OPEN,
+            state: State::Open as u8,
             flags,
             disabled,
-            enabled: self.enabled,
             listed,
-            protects: self.protects,
-            ours: self.ours,
             theirs: found.capabilities,
-            hello: self.hello,
-            next: self.next,
+            ..self
         }
     }
 
-    // Initialization received (Ready only) where there is no row, and so no limit.
-    #[tactic(auto, using(crate::proofs::Shapes::ready_permits, crate::proofs::Steps::initialization_all), unfolding(choice::specs::Pick::pick, crate::specs::Decisions::settled))]
+    // Here and below the arguments are those of the event, which docs/PROMISES.md names.
+    /// Initialization received with this area, of a session that may not be sound and that stands in no row, so that no limit is asked.
+    #[tactic(auto, unfolding(choice::specs::Pick::pick, crate::specs::Decisions::settled, crate::specs::Events::on_initialization))]
     pub fn initialization(self, area: &[u8]) -> After
         ensures { result ≡ step self (Initialization area.now all_applications) }
     {
-        if self.sound() {
-            if self.state == Self::READY {
-                let found = area::read_area(area);
-                if found.refusal == refusals::NOT_REFUSED {
-                    return self.enter(self.after_initialization(area, found));
-                }
-                return self.refused(found.refusal);
-            }
-            return self.refused(refusals::WRONG_STATE);
+        self.once_sound(|sound| sound.initialization(area, Self::ALL_APPLICATIONS))
+    }
+}
+
+impl SoundSession {
+    #[tactic(auto, using(crate::proofs::Shapes::ready_permits, area::proofs::Parts::parts_inside), unfolding(choice::specs::Pick::pick, crate::specs::Decisions::settled, crate::specs::Events::on_initialization))]
+    #[inline(always)]
+    fn try_initialization(self, area: &[u8], below_limit: u16) -> Result<After, Refusal>
+        ensures { after_of self result ≡ step self (Initialization area.now below_limit) }
+    {
+        let s = self.session;
+        if !s.is(State::Ready) {
+            return Err(Refusal::WrongState);
         }
-        self.refused(refusals::NOT_SOUND)
+        let found = area::found_in(area)?;
+        Ok(s.admit(s.after_initialization(area, found), below_limit))
     }
 
-    // Initialization received by a sound session, told the applications that are below their limit.
-    #[tactic(auto, using(crate::proofs::Shapes::ready_permits), unfolding(choice::specs::Pick::pick, crate::specs::Decisions::settled, crate::specs::Events::on_initialization))]
-    pub fn initialization_when_sound(self, area: &[u8], below_limit: u16) -> After
-        requires { sound self ≡ true }
+    /// Initialization received with this area, told the applications that are below their limit: refused in any state but Ready, and where the area is.
+    #[inline(always)]
+    pub fn initialization(self, area: &[u8], below_limit: u16) -> After
         ensures { result ≡ step self (Initialization area.now below_limit) }
     {
-        if self.state == Self::READY {
-            let found = area::read_area(area);
-            if found.refusal == refusals::NOT_REFUSED {
-                return self.admit(self.after_initialization(area, found), below_limit);
-            }
-            return self.refused(found.refusal);
-        }
-        self.refused(refusals::WRONG_STATE)
+        self.session
+            .told(self.try_initialization(area, below_limit))
     }
 }

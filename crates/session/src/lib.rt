@@ -1,14 +1,14 @@
 #![tactic(auto, unfolding(choice::specs::Pick::pick))]
-// One targeted session, in numbers: the stored record's fields under document 01's names, and the capabilities of both ends. Every bit pattern is a
-// value; `sound` says which of them is a session, and every event asks it first.
-ghost use Rattle.std.specs.Prelude.{◌≡◌, ◌<◌};
-ghost use Rattle.choice.specs.Pick.{pick};
-ghost use Rattle.sets.specs.Set.{minus};
-ghost use Rattle.session.specs.Session.{active, uses_tac, in_force, dynamic, recorded, leaves_gone, negotiated, held, nothing_common};
+// One targeted session, in numbers: the stored record's fields, and the capabilities of both ends. Every bit pattern is a value; `sound` says which of them
+// is a session, and every event asks it first.
+ghost use Rattle.std.specs.Prelude.{◌≡◌, ◌<◌, ◌==◌};
+ghost use Rattle.sets.specs.Set.{has, minus};
+ghost use Rattle.session.specs.Session.{state_number, flag_bit, leaves_gone, negotiated, held, nothing_common};
 ghost use Rattle.session.specs.With.{held_to_ready, no_session};
 ghost use Rattle.session.specs.Creation.{raised};
 
 mod capability;
+mod checked;
 mod closed;
 mod creation;
 mod decisions;
@@ -20,9 +20,17 @@ mod mismatch;
 mod permitted;
 mod questions;
 mod sound;
+mod state;
 mod unknown;
 mod wish;
 
+pub use checked::SoundSession;
+pub use questions::Obstacle;
+pub(crate) use state::{Flag, State};
+
+// C's structs, here and below: numbers for states, flags, outcomes, obstacles and refusals, and a refusal's beside what is answered.
+/// A session: its state and its flags by their numbers, and sets with a bit for each member, of Apps disabled by the peer, of applications enabled here and
+/// listed by the peer, of the kinds that Session Protection opens, of our capabilities and the peer's; then the recorded Hello number and the next message number.
 #[repr(C)]
 #[derive(Clone, Copy)]
 pub struct Session {
@@ -38,7 +46,7 @@ pub struct Session {
     pub next: u32,
 }
 
-// What an event answers: numbers and sets of document 01.
+/// What an event answers: the refusal and the outcome by their numbers, the kinds lost and gained as sets, and how many octets were written.
 #[repr(C)]
 #[derive(Clone, Copy)]
 pub struct Answer {
@@ -49,7 +57,7 @@ pub struct Answer {
     pub written: u16,
 }
 
-// The session after an event, and the answer.
+/// The session after an event, and the answer.
 #[repr(C)]
 #[derive(Clone, Copy)]
 pub struct After {
@@ -57,7 +65,8 @@ pub struct After {
     pub answer: Answer,
 }
 
-// What is settled at creation, our capabilities among it, and our wishes.
+/// What is settled at creation. Sets have a bit for each member: of kinds, 0 to 9; of enabled applications, 1 to 13, from bit 0 on; of our wishes, Apps
+/// 1 to 4; of our capabilities, the three.
 #[repr(C)]
 #[derive(Clone, Copy)]
 pub struct Settings {
@@ -72,14 +81,7 @@ pub struct Settings {
     pub capabilities: u32,
 }
 
-// What creation answers.
-#[derive(Clone, Copy)]
-pub enum Created {
-    Fresh(Session),
-    Refused(u8),
-}
-
-// Whether a kind may be sent.
+/// Whether a kind may be sent, as C has it: the refusal's number, or 0 and 1 for permitted.
 #[repr(C)]
 #[derive(Clone, Copy)]
 pub struct Permission {
@@ -87,7 +89,7 @@ pub struct Permission {
     pub permitted: u8,
 }
 
-// The kinds that may be sent.
+/// The kinds that may be sent, as C has them: the refusal's number, or 0 and the set, kind k at bit k.
 #[repr(C)]
 #[derive(Clone, Copy)]
 pub struct Kinds {
@@ -95,7 +97,7 @@ pub struct Kinds {
     pub kinds: u16,
 }
 
-// Why a kind may not be sent.
+/// Why a kind may not be sent, as C has it: the refusal's number, or 0 and the obstacle's, 0 for a kind that is permitted.
 #[repr(C)]
 #[derive(Clone, Copy)]
 pub struct Reason {
@@ -103,7 +105,7 @@ pub struct Reason {
     pub reason: u8,
 }
 
-// The retry interval.
+/// The retry interval, as C has it: the refusal's number, or 0 and the interval.
 #[repr(C)]
 #[derive(Clone, Copy)]
 pub struct Retry {
@@ -112,54 +114,30 @@ pub struct Retry {
 }
 
 impl Session {
-    const READY: u8 = 0;
-
-    const OPEN: u8 = 1;
-
-    const HELD: u8 = 2;
-
-    const GONE: u8 = 3;
-
+    // The number where there is no state, in C's struct.
     const NO_STATE: u8 = 255;
 
-    // Flags by their bits.
-    const INITIATING_BIT: u16 = 0;
+    // Flags as sets: `raised` and `lowered` take sets of more than one flag, and of capabilities.
+    const INITIATING: u16 = 1 << Flag::Initiating as u16;
 
-    const ACTIVE_BIT: u16 = 1;
+    const ACTIVE: u16 = 1 << Flag::Active as u16;
 
-    const USES_TAC_BIT: u16 = 2;
+    const USES_TAC: u16 = 1 << Flag::UsesTac as u16;
 
-    const DROPS_BIT: u16 = 3;
+    const DROPS: u16 = 1 << Flag::Drops as u16;
 
-    const IN_FORCE_BIT: u16 = 4;
+    const IN_FORCE: u16 = 1 << Flag::InForce as u16;
 
-    const DYNAMIC_BIT: u16 = 5;
+    const DYNAMIC: u16 = 1 << Flag::Dynamic as u16;
 
-    const RECORDED_BIT: u16 = 6;
-
-    const FLAG_COUNT: u16 = 7;
-
-    // The same as sets of flags.
-    const INITIATING: u16 = 1 << Self::INITIATING_BIT;
-
-    const ACTIVE: u16 = 1 << Self::ACTIVE_BIT;
-
-    const USES_TAC: u16 = 1 << Self::USES_TAC_BIT;
-
-    const DROPS: u16 = 1 << Self::DROPS_BIT;
-
-    const IN_FORCE: u16 = 1 << Self::IN_FORCE_BIT;
-
-    const DYNAMIC: u16 = 1 << Self::DYNAMIC_BIT;
-
-    const RECORDED: u16 = 1 << Self::RECORDED_BIT;
+    const RECORDED: u16 = 1 << Flag::Recorded as u16;
 
     // What leaving Open clears of the flags, and what Gone clears.
     const CLEARED_OUT_OF_OPEN: u16 = Self::IN_FORCE + Self::DYNAMIC;
 
     const CLEARED_IN_GONE: u16 = Self::CLEARED_OUT_OF_OPEN + Self::RECORDED;
 
-    // What stands where there is no session; it is not sound.
+    /// What stands where there is no session; it is not sound.
     pub fn none() -> Session
         ensures { result ≡ no_session }
     {
@@ -177,42 +155,29 @@ impl Session {
         }
     }
 
-    fn active(self) -> bool
-        ensures { result ≡ active self }
+    // In this state.
+    #[inline(always)]
+    fn is(self, state: State) -> bool
+        ensures { result ≡ (self.state == state_number state) }
     {
-        sets::has(self.flags as u16, Self::ACTIVE_BIT)
+        self.state == state as u8
     }
 
-    fn uses_tac(self) -> bool
-        ensures { result ≡ uses_tac self }
+    // Not by `sets::has`: with it the test of soundness takes 1 to 3 instructions more.
+    // With this flag.
+    #[tactic(auto, unfolding(choice::specs::Pick::pick, sets::specs::Set::has))]
+    #[inline(always)]
+    fn has(self, flag: Flag) -> bool
+        ensures { result ≡ has self.flags (flag_bit flag) }
     {
-        sets::has(self.flags as u16, Self::USES_TAC_BIT)
-    }
-
-    fn in_force(self) -> bool
-        ensures { result ≡ in_force self }
-    {
-        sets::has(self.flags as u16, Self::IN_FORCE_BIT)
-    }
-
-    fn dynamic(self) -> bool
-        ensures { result ≡ dynamic self }
-    {
-        sets::has(self.flags as u16, Self::DYNAMIC_BIT)
-    }
-
-    fn recorded(self) -> bool
-        ensures { result ≡ recorded self }
-    {
-        sets::has(self.flags as u16, Self::RECORDED_BIT)
+        (self.flags >> flag as u8) % 2 == 1
     }
 
     // Initiating and set to drop: a mismatch takes an active end to Gone.
     fn leaves_gone(self) -> bool
         ensures { result ≡ leaves_gone self }
     {
-        let flags = self.flags as u16;
-        sets::has(flags, Self::INITIATING_BIT) & sets::has(flags, Self::DROPS_BIT)
+        self.has(Flag::Initiating) & self.has(Flag::Drops)
     }
 
     // The applications both enabled and listed.
@@ -223,6 +188,7 @@ impl Session {
     }
 
     // The capabilities that both ends hold.
+    #[tactic(auto, using(crate::proofs::Octets::common_fits))]
     fn held(self) -> u8
         ensures { result ≡ held self }
     {
@@ -234,33 +200,24 @@ impl Session {
     fn nothing_common(self) -> bool
         ensures { result ≡ nothing_common self }
     {
-        self.in_force() & (self.negotiated() == 0)
+        self.has(Flag::InForce) & (self.negotiated() == 0)
     }
 
+    // By its number: the session's own is handed on, and a `State` would be made only to be turned back.
     // The state, Held as Ready.
     #[tactic(auto, unfolding(choice::specs::Pick::pick, crate::specs::With::held_to_ready))]
     fn held_to_ready(self) -> u8
         ensures { result ≡ held_to_ready self }
     {
-        if self.state == Self::HELD {
-            return Self::READY;
+        if self.is(State::Held) {
+            return State::Ready as u8;
         }
         self.state
     }
 }
 
-// The one where a test holds, else the other.
-fn pick(holds: bool, one: u16, other: u16) -> u16
-    ensures { result ≡ pick holds one other }
-{
-    if holds {
-        return one;
-    }
-    other
-}
-
 // Flags with more of them, where `on` holds.
-#[tactic(auto, unfolding(choice::specs::Pick::pick, crate::specs::Creation::raised))]
+#[tactic(auto, using(crate::proofs::Octets::union_fits), unfolding(choice::specs::Pick::pick, crate::specs::Creation::raised))]
 fn raised(flags: u8, on: bool, more: u16) -> u8
     requires { more < 256 }
     ensures { result ≡ raised flags on more }
@@ -272,6 +229,7 @@ fn raised(flags: u8, on: bool, more: u16) -> u8
 }
 
 // Flags without some of them.
+#[tactic(auto, using(crate::proofs::Octets::minus_fits))]
 fn lowered(flags: u8, off: u16) -> u8
     ensures { result ≡ minus flags off }
 {

@@ -1,17 +1,15 @@
 // A session among others: what it uses.
-ghost use Rattle.std.specs.Prelude.{◌≡◌, true};
-ghost use Rattle.session.specs.Session.{sound};
+ghost use Rattle.std.specs.Prelude.{◌≡◌};
 ghost use Rattle.session.specs.Limits.{used};
 
-use crate::Session;
+use crate::SoundSession;
 
-impl Session {
-    // The applications that a sound session uses: out of force nothing is listed.
+impl SoundSession {
+    /// The applications that it uses, as a set: those both enabled and listed. Out of force nothing is listed.
     #[tactic(auto, unfolding(choice::specs::Pick::pick, crate::specs::Limits::used))]
-    pub fn used_when_sound(self) -> u16
-        requires { sound self ≡ true }
+    pub fn used(self) -> u16
         ensures { result ≡ used self }
     {
-        self.negotiated()
+        self.session.negotiated()
     }
 }

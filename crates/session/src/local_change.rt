@@ -2,59 +2,83 @@
 ghost use Rattle.std.specs.Prelude.{◌≡◌, false, ◌&&◌};
 ghost use Rattle.session.specs.Session.{is_open, uses_tac, in_force, permitted};
 ghost use Rattle.session.specs.With.{with_next_number};
-ghost use Rattle.session.specs.Decisions.{settled};
+ghost use Rattle.session.specs.Decisions.{after_of, settled};
 ghost use Rattle.session.specs.Events.{writing, step, LocalChange};
 
-use crate::{After, Session};
+use crate::decisions::Outcome;
+use crate::{After, Flag, Session, SoundSession, State};
 use kinds::TaId;
+use refusals::Refusal;
+use sets::Numbered;
 
 impl Session {
     // The next message number; after 4,294,967,295 comes 0.
-    pub(crate) fn with_next_number(mut self) -> Session
+    pub(crate) fn with_next_number(self) -> Session
         ensures { result ≡ with_next_number self }
     {
-        self.next = std::num::wrapping_add_u32(self.next, 1);
-        self
+        Session {
+            next: self.next.wrapping_add(1),
+            ..self
+        }
     }
 
     // In Open with TAC used a change is written; any other is only set, and moves no kind.
     #[tactic(auto, unfolding(choice::specs::Pick::pick, crate::specs::Decisions::settled, crate::specs::Events::writing))]
-    fn writing(self, after: Session, room: usize) -> After
+    #[inline(always)]
+    fn writing(self, after: Session, room: usize) -> Result<After, Refusal>
         requires { ((is_open self && uses_tac self) ≡ false → permitted after ≡ permitted self) × (in_force after ≡ false → permitted after ≡ permitted self) }
-        ensures { result ≡ settled self (writing self after room) }
+        ensures { after_of self result ≡ settled self (writing self after room) }
     {
-        if (self.state == Self::OPEN) & self.uses_tac() {
-            if self.dynamic() {
-                if message::CHANGE_LENGTH <= room {
-                    return self.send(after, message::CHANGE_LENGTH as u16);
-                }
-                return self.refused(refusals::NO_ROOM);
-            }
-            return self.refused(refusals::PEER_NOT_DYNAMIC);
+        if !(self.is(State::Open) & self.has(Flag::UsesTac)) {
+            return Ok(self.unmoved(after, Outcome::Done, 0));
         }
-        self.unmoved(after, Self::DONE, 0)
+        if !self.has(Flag::Dynamic) {
+            return Err(Refusal::PeerNotDynamic);
+        }
+        if room < message::CHANGE_LENGTH {
+            return Err(Refusal::NoRoom);
+        }
+        Ok(self.send(after, message::CHANGE_LENGTH as u16))
     }
 
-    // The change, told how many octets of room there are; what it writes is put there by `message::write`.
+    // Here and below the arguments are those of the event, which docs/PROMISES.md names. It goes by value, so it is told the length of the room; `message::write` writes.
+    /// Local change of one application, of a session that may not be sound.
     #[tactic(auto, unfolding(choice::specs::Pick::pick, crate::specs::Decisions::settled, crate::specs::Events::on_local_change))]
     pub fn local_change(self, app: TaId, on: bool, room: usize) -> After
         ensures { result ≡ step self (LocalChange app.0 on room) }
     {
-        if self.sound() {
-            if app.is_known() {
-                // Already so.
-                let enabled = app.is_in(self.enabled);
-                if (enabled & on) | (!enabled & !on) {
-                    return self.unchanged();
-                }
-                // The application set, and a Held session Ready.
-                let mut after = self;
-                after.state = self.held_to_ready();
-                after.enabled = app.switched(self.enabled, on);
-                return self.writing(after, room);
-            }
-            return self.refused(refusals::OUT_OF_RANGE);
+        self.once_sound(|sound| sound.local_change(app, on, room))
+    }
+}
+
+impl SoundSession {
+    #[tactic(auto, using(crate::proofs::SoundMeans::sound_means, crate::proofs::Shapes::changed_permits, crate::proofs::Shapes::unused_unforced), unfolding(choice::specs::Pick::pick, crate::specs::Decisions::settled, crate::specs::Events::on_local_change, kinds::specs::Kinds::is_in))]
+    #[inline(always)]
+    fn try_local_change(self, app: TaId, on: bool, room: usize) -> Result<After, Refusal>
+        ensures { after_of self result ≡ step self (LocalChange app.0 on room) }
+    {
+        let s = self.session;
+        if !app.is_known() {
+            return Err(Refusal::OutOfRange);
         }
-        self.refused(refusals::NOT_SOUND)
+        if app.is_in(s.enabled) == on {
+            return Ok(s.unchanged());
+        }
+        // The application set, and a Held session Ready.
+        let after = Session {
+            state: s.held_to_ready(),
+            enabled: app.switched(s.enabled, on),
+            ..s
+        };
+        s.writing(after, room)
+    }
+
+    /// Local change of one application, on or off, told how many octets of room there are. What it writes is put there by `message::write`. Refused where the
+    /// TA-Id is none, and in Open with TAC used where the peer is not dynamic or the room is too short.
+    #[inline(always)]
+    pub fn local_change(self, app: TaId, on: bool, room: usize) -> After
+        ensures { result ≡ step self (LocalChange app.0 on room) }
+    {
+        self.session.told(self.try_local_change(app, on, room))
     }
 }

@@ -3,22 +3,28 @@ ghost use Rattle.std.specs.Prelude.{◌≡◌};
 ghost use Rattle.sets.specs.Set.{has};
 ghost use Rattle.session.specs.Session.{permitted_by_base, permitted};
 
-use crate::Session;
+use crate::{Flag, Session, State};
 
 impl Session {
-    // The kinds that document 01's rule permits, whatever capabilities the ends hold. It picks and does not branch, and so is put in place where it is asked.
+    /// The kinds that TAC (RFC 8223) and SAC (RFC 7473) leave, as a set, whatever capabilities the ends hold. It picks and does not branch, and so is put in place where it is asked.
     #[tactic(auto, unfolding(choice::specs::Pick::pick, crate::specs::Session::permitted_by_base))]
+    #[inline(always)]
     pub fn permitted_by_base(self) -> u16
         ensures { result ≡ permitted_by_base self }
     {
         let opened = kinds::opened(self.negotiated(), self.protects);
-        let open = crate::pick(self.in_force(), opened, kinds::ALL_KINDS);
+        let open = if self.has(Flag::InForce) {
+            opened
+        } else {
+            kinds::ALL_KINDS
+        };
         let allowed = sets::minus(open, kinds::disables(self.disabled));
-        crate::pick(self.state == Self::OPEN, allowed, 0)
+        if self.is(State::Open) { allowed } else { 0 }
     }
 
-    // The permitted kinds of a session, sound or not.
+    /// The permitted kinds of a session, sound or not, as a set: those whose capability both ends hold as well.
     #[tactic(auto, unfolding(choice::specs::Pick::pick, crate::specs::Session::permitted))]
+    #[inline(always)]
     pub fn permitted(self) -> u16
         ensures { result ≡ permitted self }
     {
@@ -31,18 +37,18 @@ impl Session {
     pub(crate) fn permits(self, kind: u16) -> bool
         ensures { result ≡ has (permitted self) kind }
     {
-        if self.state == Self::OPEN {
-            if kinds::disables_kind(self.disabled, kind) {
-                return false;
-            }
-            if kinds::bars_kind(self.held(), kind) {
-                return false;
-            }
-            if self.in_force() {
-                return kinds::opens_kind(self.negotiated(), self.protects, kind);
-            }
-            return sets::has(kinds::ALL_KINDS, kind);
+        if !self.is(State::Open) {
+            return false;
         }
-        false
+        if kinds::disables_kind(self.disabled, kind) {
+            return false;
+        }
+        if kinds::bars_kind(self.held(), kind) {
+            return false;
+        }
+        if self.has(Flag::InForce) {
+            return kinds::opens_kind(self.negotiated(), self.protects, kind);
+        }
+        sets::has(kinds::ALL_KINDS, kind)
     }
 }

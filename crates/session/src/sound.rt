@@ -4,14 +4,17 @@ ghost use Rattle.choice.specs.Pick.{pick};
 ghost use Rattle.sets.specs.Set.{common, empty};
 ghost use Rattle.session.specs.Session.{uses_tac, in_force, cleared_out_of_open, negotiated, spare_zero, hello_sound, held_sound, gone_sound, sound};
 
-use crate::Session;
+use crate::{Flag, Session, State};
 use kinds::{Capability, SacApp, TaId};
+use sets::Numbered;
+
+// The tests stand in nested ifs: with `&&`, `||` and early returns `load` takes 74 instructions for 69, and `store` 79 for 74.
 
 impl Session {
     // Sets with no spare bit are below these.
-    const FLAGS_END: u8 = 1 << Self::FLAG_COUNT;
+    const FLAGS_END: u8 = 1 << Flag::COUNT;
 
-    const APPLICATIONS_END: u16 = 1 << TaId::COUNT;
+    pub(crate) const APPLICATIONS_END: u16 = 1 << TaId::COUNT;
 
     const KINDS_END: u16 = 1 << kinds::KIND_COUNT;
 
@@ -24,7 +27,7 @@ impl Session {
     fn spare_zero(self) -> bool
         ensures { result ≡ spare_zero self }
     {
-        if self.state <= Self::GONE {
+        if self.state <= State::Gone as u8 {
             return (self.flags < Self::FLAGS_END)
                 & ((self.enabled < Self::APPLICATIONS_END)
                     & ((self.listed < Self::APPLICATIONS_END)
@@ -41,8 +44,8 @@ impl Session {
     fn lists_sound(self) -> bool
         ensures { result ≡ pick (in_force self) (uses_tac self && not (empty (negotiated self))) (empty self.listed) }
     {
-        if self.in_force() {
-            return self.uses_tac() & !(self.negotiated() == 0);
+        if self.has(Flag::InForce) {
+            return self.has(Flag::UsesTac) & (self.negotiated() != 0);
         }
         self.listed == 0
     }
@@ -56,11 +59,11 @@ impl Session {
         if (sets::common(self.flags as u16, Self::CLEARED_OUT_OF_OPEN) == 0)
             & ((self.listed == 0) & ((self.disabled == 0) & (self.theirs == 0)))
         {
-            if self.state == Self::HELD {
-                return self.active() & !self.leaves_gone();
+            if self.is(State::Held) {
+                return self.has(Flag::Active) & !self.leaves_gone();
             }
-            if self.state == Self::GONE {
-                return self.active() & (self.leaves_gone() & !self.recorded());
+            if self.is(State::Gone) {
+                return self.has(Flag::Active) & (self.leaves_gone() & !self.has(Flag::Recorded));
             }
             return true;
         }
@@ -72,20 +75,20 @@ impl Session {
     fn hello_sound(self) -> bool
         ensures { result ≡ hello_sound self }
     {
-        if self.recorded() {
+        if self.has(Flag::Recorded) {
             return true;
         }
         self.hello == 0
     }
 
-    // All of them, by the state; once one fails the others are not asked.
+    /// Every rule of a sound session holds: by the state, and once one fails the others are not asked.
     #[tactic(auto, using(crate::proofs::SoundByState::in_open, crate::proofs::SoundByState::not_in_open, crate::proofs::SoundByState::not_open), unfolding(choice::specs::Pick::pick, crate::specs::Session::sound))]
     pub fn sound(self) -> bool
         ensures { result ≡ sound self }
     {
         if self.spare_zero() {
             if self.hello_sound() {
-                if self.state == Self::OPEN {
+                if self.is(State::Open) {
                     return self.lists_sound();
                 }
                 return self.shut_sound();

@@ -1,11 +1,10 @@
 -- The set of the numbers for which a test holds: its members are those numbers, it has no bits beyond its width, and of two tests that agree it is one
 -- set. By the laws of switching one number on or off, and induction over the numbers. Assumes nothing.
 use Prim.Native.Nat.{ℕ, zero, suc, ◌+◌, ◌-◌, ◌^◌, ◌<◌, ◌≤◌}
-use mathlib.Core.Path.{◌≡◌, refl, ap, ◌∙◌}
+use mathlib.Core.Path.{◌≡◌, refl, ◌∙◌}
 use mathlib.Core.Bool.{Bool}
 use lib.Pow.{pow_pos}
 use native.Mathlib.Nat.{le_refl}
-use native.Mathlib.Numerals.{add-one}
 use native.Mathlib.Decide.{dec_lt}
 use native.Mathlib.Omega.{arith}
 use Rattle.sets.specs.Set.{has, switched, chosen}
@@ -35,8 +34,3 @@ chosen_same w test other (suc k) f =
     let before = chosen_same w test other k (λ n l m. f n l (omega arith)) in
     let this : test (k + 1) ≡ other (k + 1) = f (k + 1) (omega arith) (omega arith) in
     rw (before, this) refl
-
--- one number more
-pub chosen_more : (w : ℕ) (test : ℕ → Bool) (k : ℕ) → chosen w test (k + 1) ≡ switched w (chosen w test k) (k + 1) (test (k + 1))
-unfolding chosen
-chosen_more w test k = ap (chosen w test) (add-one k)

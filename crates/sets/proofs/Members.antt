@@ -3,19 +3,16 @@
 use mathlib.Core.Path.{◌≡◌, refl, sym, ap, ap₂, ◌∙◌}
 use mathlib.Core.Bool.{Bool, true, false, not, ◌&&◌, ◌||◌, or-true, or-false, and-true, and-false, true≢false}
 use Prim.Native.Nat.{ℕ, zero, suc, ◌+◌, ◌-◌, ◌*◌, ◌/◌, ◌%◌, ◌^◌, ◌<◌, ◌≤◌, suc-le-suc, zero-le}
-use native.Mathlib.Nat.{mod-lt, zero-lt-suc, le_of_suc-le-suc, not-suc-le-zero, one-mul, pow-suc, div-add-mod', div-one, zero-div, div-eq_of_lt, div_self, lt_of_lt_of_le, mul-mod_left, mul-div_cancel}
+use native.Mathlib.Nat.{mod-lt, zero-lt-suc, le_of_suc-le-suc, not-suc-le-zero, pow-suc, div-add-mod', div-one, zero-div, div-eq_of_lt, div_self, lt_of_lt_of_le, mul-mod_left, mul-div_cancel}
 use native.Mathlib.Numerals.{one-add, add-one}
 use native.Mathlib.Omega.{arith}
 use native.Mathlib.Decide.{dec_lt, ℕ_discrete}
-use lib.Dec.{eqb, lit<}
-use lib.Pow.{shl_exact, shr-shr, shr_lt, pow_pos, pow-lt, pow_mono}
-use lib.Bits.{bit_and, bit_or, bit_xor, and_shr, or_shr, xor_shr, and_mod, or_mod, xor_mod, or_zero_r, or_lt}
+use lib.Dec.{eqb}
+use lib.Pow.{shr-shr, shr_lt, pow_pos, pow-lt, pow_mono}
+use lib.Bits.{bit_and, bit_or, bit_xor, and_shr, or_shr, xor_shr, and_mod, or_mod, xor_mod, or_zero_r, or_lt, and_comm, and_self, xor_add_and}
+use Rattle.std.proofs.lemmas.Nat.{and-not, and_assoc}
 use Rattle.choice.specs.Pick.{pick}
-use Rattle.sets.specs.Set.{has, one, common, union, minus, with, without}
-
--- `1 << k` loses nothing below the width
-pub shl_one : (k w : ℕ) → k < w → 1 * 2 ^ k % 2 ^ w ≡ one k
-shl_one k w h = shl_exact 1 k w (lit< tt) (omega arith) ∙ one-mul (2 ^ k)
+use Rattle.sets.specs.Set.{set_width, has, one, common, union, minus, with, without}
 
 -- ---- an operation that goes digit by digit goes member by member
 module _ (op : ℕ → ℕ → ℕ) (f : Bool → Bool → Bool)
@@ -62,6 +59,13 @@ pub has_minus : (a b k : ℕ) → has (minus a b) k ≡ has a k && not (has b k)
 unfolding minus common
 has_minus a b k = has_xor a (bit_and a b) k ∙ ap (unlike (has a k)) (has_common a b k) ∙ unlike_and (has a k) (has b k)
 
+-- `a & !b` is what is in a and not in b
+pub minus_is : (a b : ℕ) → a < 65536 → b < 65536 → bit_and a (65535 - b) ≡ minus a b
+unfolding minus
+minus_is a b ha hb =
+    let both : bit_and a (bit_and a b) ≡ bit_and a b = sym (and_assoc b a a) ∙ ap (λ (n : ℕ). bit_and n b) (and_self a) in
+    omega (arith, and-not set_width b a hb ha, and_comm a (65535 - b), and_comm b a, xor_add_and a (bit_and a b))
+
 -- ---- a set is told by its members
 -- the empty set has none
 pub has_none : (k : ℕ) → has 0 k ≡ false
@@ -104,6 +108,10 @@ ext (suc w) a b ha hb h =
 pub has_above : (w a k : ℕ) → a < 2 ^ w → w ≤ k → has a k ≡ false
 unfolding has
 has_above w a k h l = ap (λ (n : ℕ). eqb (n % 2) 1) (div-eq_of_lt (lt_of_lt_of_le h (pow_mono l)))
+
+-- so none of the code's sets has one at 16 or above
+pub beyond : (s k : ℕ) → s < 65536 → set_width ≤ k → false ≡ has s k
+beyond s k small l = sym (has_above set_width s k small l)
 
 -- so a member is below the width
 pub has_lt : (w a k : ℕ) → a < 2 ^ w → has a k ≡ true → k < w

@@ -2,8 +2,8 @@
 -- width. From the laws of one member more or less. Assumes nothing.
 use mathlib.Core.Path.{◌≡◌, refl, sym, ap, ◌∙◌, subst}
 use mathlib.Core.Bool.{Bool, true, false, ◌&&◌, and-false, true≢false, false≢true}
-use Prim.Native.Nat.{ℕ, ◌+◌, ◌-◌, ◌^◌, ◌<◌, ◌≤◌}
-use native.Mathlib.Nat.{le_refl}
+use Prim.Native.Nat.{ℕ, ◌+◌, ◌-◌, ◌%◌, ◌^◌, ◌<◌, ◌≤◌}
+use native.Mathlib.Nat.{le_refl, mod-eq_of_lt}
 use native.Mathlib.Omega.{arith}
 use native.Mathlib.Decide.{ℕ_discrete}
 use lib.Dec.{leb}
@@ -54,6 +54,10 @@ module _ (w s n : ℕ) (on : Bool) where
     where
       small : ℕ → Type 0
       small x = x < 2 ^ v
+
+  -- so a set of v digits keeps them all
+  pub switched_kept : (v : ℕ) → w ≤ v → s < 2 ^ v → switched w s n on % 2 ^ v ≡ switched w s n on
+  switched_kept v g h = mod-eq_of_lt (switched_lt v g h)
 
 -- ---- said of the numbers: it holds as it was switched, and every other as before
 module _ (w s n : ℕ) (on : Bool) where

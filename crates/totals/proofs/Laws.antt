@@ -12,19 +12,20 @@ use native.Mathlib.Nat.{le_refl}
 use native.Mathlib.Numerals.{add-one}
 use native.Mathlib.Omega.{arith}
 use lib.Dec.{eqb, ltb}
+use Rattle.std.specs.Prelude.{Option, Some, None, Ok, Err}
 use borrow.Author.Tests.{ltb-true, lt-ltb, le-ltb, eqb-true, eq-eqb, ne_eqb}
 use Rattle.choice.specs.Pick.{pick}
 use Rattle.choice.proofs.Branch.{taken, left, by_test}
 use Rattle.choice.proofs.Tests.{or_first, or_second, or_either, or_neither}
 use Rattle.sets.specs.Set.{has, union}
 use Rattle.sets.proofs.Members.{has_union, has_none}
+use Rattle.refusals.specs.declared.Refusal.TheVariants.{TotalOutside}
 use Rattle.refusals.specs.Refusals.{total_outside}
 use Rattle.kinds.specs.Kinds.{kind_count}
 use Rattle.session.specs.declared.Session.{Session}
 use Rattle.session.specs.declared.After.{After}
 use Rattle.session.specs.Decisions.{refused}
 use Rattle.totals.specs.declared.Totals.{Totals}
-use Rattle.totals.specs.declared.Moved.{Moved}
 use Rattle.totals.specs.declared.Totalled.{Totalled}
 use Rattle.totals.specs.Totals.{total_of, highest_total, total_after, goes_outside, moved_each, one_outside, totals_after, any_outside, moved_totals, totalled}
 use Rattle.totals.proofs.Filled.{filled_length, filled_at, filled_past}
@@ -79,6 +80,17 @@ unfolding goes_outside pick
 moves_outside true y n h = refl
 moves_outside false true n h = refl
 moves_outside false false n h = absurd (true≢false (sym h))
+
+-- that is stepped to, or none
+pub no_step : (outside : Bool) (n : ℕ) {r : Option ℕ} → r ≡ pick outside None (Some n) → r ≡ None → outside ≡ true
+unfolding pick
+no_step true n e f = refl
+no_step false n e f = grind arith
+
+pub one_step : (outside : Bool) (n m : ℕ) {r : Option ℕ} → r ≡ pick outside None (Some n) → r ≡ Some m → (outside ≡ false) × (m ≡ n)
+unfolding pick
+one_step true n m e f = grind arith
+one_step false n m e f = (refl, grind arith)
 
 -- ---- each of them
 module _ (each : List ℕ) (lost gained : ℕ) where
@@ -200,18 +212,18 @@ module _ (t : Totals) (lost gained : ℕ) where
 
 -- ---- what the totals move to
 module _ (t : Totals) (lost gained : ℕ) where
-  -- where one goes outside, they stay
-  pub moved_outside : any_outside t lost gained ≡ true → moved_totals t lost gained ≡ record { outside = true; totals = t }
+  -- none where one goes outside
+  pub moved_outside : any_outside t lost gained ≡ true → moved_totals t lost gained ≡ Err TotalOutside
   unfolding moved_totals
   moved_outside h = taken _ _ h
 
   -- where none of the first k does and no other moves, the first k are all
   pub moved_inside : (k : ℕ) → k ≤ kind_count → Still t.each lost gained k kind_count → one_outside t.each lost gained k ≡ false
-      → moved_totals t lost gained ≡ record { outside = false; totals = record { each = moved_each t.each lost gained k } }
+      → moved_totals t lost gained ≡ Ok (record { each = moved_each t.each lost gained k })
   unfolding moved_totals any_outside totals_after
   moved_inside k l still before =
       left _ _ (inside_to t.each lost gained k kind_count l still before)
-      ∙ ap (λ (each : List ℕ). record { outside = false; totals = record { each = each } }) (sym (still_to t.each lost gained k kind_count l still))
+      ∙ ap (λ (each : List ℕ). Ok (record { each = each })) (sym (still_to t.each lost gained k kind_count l still))
 
 -- ---- an event
 module _ (t : Totals) (before : Session) (after : After) where
@@ -235,17 +247,3 @@ module _ (t : Totals) (before : Session) (after : After) where
   pub totalled_inside : any_outside t after.answer.lost after.answer.gained ≡ false → totalled t before after ≡ Happens (totals_after t after.answer.lost after.answer.gained)
   unfolding totalled
   totalled_inside h = left _ _ h
-
-  -- by what the totals move to
-  abbrev by : Moved → Totalled
-  by m =
-      let settled : After = pick m.outside (refused before total_outside) after in
-      record { session = settled.session; answer = record { answer = settled.answer; totals = m.totals } }
-
-  pub by_moved : by (moved_totals t after.answer.lost after.answer.gained) ≡ totalled t before after
-  unfolding totalled moved_totals pick
-  by_moved = go (any_outside t after.answer.lost after.answer.gained) (totals_after t after.answer.lost after.answer.gained)
-    where
-      go : (b : Bool) (u : Totals) → by (pick b (record { outside = true; totals = t }) (record { outside = false; totals = u })) ≡ pick b Stopped (Happens u)
-      go true u = refl
-      go false u = refl

@@ -1,15 +1,16 @@
 -- Ten totals kept with a row: how many of its sessions permit each kind, "brought up to date from what each event lost and gained". Assumes nothing.
-use Rattle.std.specs.Prelude.{ℕ, zero, suc, ◌+◌, ◌-◌, Bool, true, false, ◌&&◌, ◌||◌, List, get_or, set, replicate, eqb, ltb}
+use Rattle.std.specs.Prelude.{ℕ, zero, suc, ◌+◌, ◌-◌, Bool, false, ◌&&◌, ◌||◌, List, get_or, set, replicate, eqb, ltb, Result, Ok, Err}
 use Rattle.choice.specs.Pick.{pick}
 use Rattle.sets.specs.Set.{has}
-use Rattle.refusals.specs.Refusals.{not_refused, out_of_range, total_outside}
+use Rattle.refusals.specs.declared.Refusal.{Refusal}
+use Rattle.refusals.specs.declared.Refusal.TheVariants.{TotalOutside}
+use Rattle.refusals.specs.Refusals.{not_refused, out_of_range, total_outside, told_as}
 use Rattle.kinds.specs.Kinds.{kind_count}
 use Rattle.session.specs.declared.Session.{Session}
 use Rattle.session.specs.declared.After.{After}
 use Rattle.session.specs.Decisions.{refused}
 use Rattle.totals.specs.declared.Totals.{Totals}
 use Rattle.totals.specs.declared.Total.{Total}
-use Rattle.totals.specs.declared.Moved.{Moved}
 use Rattle.totals.specs.declared.Totalled.{Totalled}
 
 -- kind k at place k
@@ -50,10 +51,9 @@ totals_after t lost gained = record { each = moved_each t.each lost gained kind_
 unfoldable pub any_outside : Totals → ℕ → ℕ → Bool
 any_outside t lost gained = one_outside t.each lost gained kind_count
 
--- both together, the totals as they were where one goes outside
-unfoldable pub moved_totals : Totals → ℕ → ℕ → Moved
-moved_totals t lost gained =
-    pick (any_outside t lost gained) (record { outside = true; totals = t }) (record { outside = false; totals = totals_after t lost gained })
+-- both together: none where one goes outside
+unfoldable pub moved_totals : Totals → ℕ → ℕ → Result Totals Refusal
+moved_totals t lost gained = pick (any_outside t lost gained) (Err TotalOutside) (Ok (totals_after t lost gained))
 
 -- ---- an event of a session of the row, with its totals
 -- "last, 16": session and totals stay, and nothing is lost, gained or written
@@ -66,3 +66,7 @@ totalled t before after =
 -- ---- the question: "6 for a kind over 9"
 unfoldable pub kind_total : Totals → ℕ → Total
 kind_total t kind = pick (ltb kind kind_count) (record { refusal = not_refused; total = total_of t kind }) (record { refusal = out_of_range; total = 0 })
+
+-- what is answered, as C has it
+abbrev pub told_total : Result ℕ Refusal → Total
+told_total = told_as (λ n. record { refusal = not_refused; total = n }) (λ r. record { refusal = r; total = 0 })

@@ -1,8 +1,9 @@
 -- Our own disinterest: the kinds of which we want no bindings, as a set of Apps beside the session, App n at bit n - 1. Assumes nothing.
-use Rattle.std.specs.Prelude.{ℕ, Bool, List, length, eqb, ltb, leb}
+use Rattle.std.specs.Prelude.{ℕ, Bool, List, Result, length, eqb, ltb, leb}
 use Rattle.choice.specs.Pick.{pick}
 use Rattle.sets.specs.Set.{has, below, switched}
-use Rattle.refusals.specs.Refusals.{not_refused, out_of_range, no_room, not_sound}
+use Rattle.refusals.specs.declared.Refusal.{Refusal}
+use Rattle.refusals.specs.Refusals.{not_refused, out_of_range, no_room, not_sound, told_as}
 use Rattle.kinds.specs.Kinds.{kind_count, app_count, disables}
 use Rattle.octets.specs.Octets.{over}
 use Rattle.message.specs.Sac.{sac_octets}
@@ -22,6 +23,10 @@ wishes_after wishes n disable refusal = pick (eqb refusal not_refused) (switched
 abbrev pub not_wanted : ℕ → Want
 not_wanted n = record { refusal = n; wanted = 0 }
 
+-- what C is told of it
+abbrev pub want_of : Result Bool Refusal → Want
+want_of = told_as (λ wanted. record { refusal = not_refused; wanted = pick wanted 1 0 }) not_wanted
+
 -- 10, then "6 for a kind over 9"
 unfoldable pub wanted : ℕ → ℕ → Want
 wanted wishes kind =
@@ -32,6 +37,10 @@ wanted wishes kind =
 -- ---- the SAC for an Initialization, put into a room
 abbrev pub unwritten : ℕ → Written
 unwritten n = record { refusal = n; written = 0 }
+
+-- what C is told of it
+abbrev pub written_of : Result ℕ Refusal → Written
+written_of = told_as (λ long. record { refusal = not_refused; written = long }) unwritten
 
 -- 10, then 8 for a room of fewer octets than it has; "omitted when there are none", it has none
 unfoldable pub wish_sac : ℕ → ℕ → Written

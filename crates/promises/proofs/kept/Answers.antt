@@ -26,6 +26,7 @@ use Rattle.promises.proofs.RowCondition3.{row_condition_3}
 use Rattle.promises.proofs.RowCalls.{row_calls_are_events, row_calls_follow, row_calls_total, row_calls_condition_3}
 use Rattle.promises.proofs.RowRecords.{narrow_over_rows, row_is_run, row_records_follow}
 use Rattle.promises.proofs.Examples.{examples, why_it_stops, why_at_that_moment, further_kind, row_examples, why_the_one_session, total_examples, capability_examples, wish_examples, move_examples}
+use Rattle.promises.proofs.Traits.{numbered_means}
 use Rattle.promises.proofs.Determined.{all_determined}
 use Rattle.promises.proofs.Why.{why_not_law}
 use Rattle.promises.proofs.Wishes.{wish_is_kept, wishes_stay, wishes_stay_sound, wishes_of_both}
@@ -37,6 +38,7 @@ returns c =
     record {
       layouts_agree = layouts_agree;
       app_layouts_agree = app_layouts_agree;
+      numbered_means = numbered_means;
       parts_inside = parts_inside;
       nothing_after_refusal = nothing_after_refusal;
       read_by_tlvs = read_by_tlvs;

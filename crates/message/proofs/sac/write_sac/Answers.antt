@@ -27,9 +27,9 @@ returns-then-whole-room c =
     let some : empty wishes ≡ false = search (rules, ne_eqb) in
     (whole_is wishes _ some c.elements_count-n.ensures, rw (sac_one wishes some) c.put_sac.ensures)
 
-pub returns : goal.returns
+pub returns-else-whole-room : goal.returns-else-whole-room
 unfolding empty
-returns c =
+returns-else-whole-room c =
     let wishes = c.args.wishes in
     let some : empty wishes ≡ false = search (rules, ne_eqb) in
     let whole = whole_is wishes _ some c.elements_count-n.ensures in

@@ -6,4 +6,4 @@ use Rattle.row.specs.Counting.{is_below}
 use Rattle.row.proofs.Tally.below_limit_by.Given as goal
 
 abbrev pub invariant-loop-k : goal.invariant-loop-k
-invariant-loop-k l = l.out ≡ chosen application_count (is_below l.counts l.each) l.k
+invariant-loop-k l = l.out ≡ chosen application_count (is_below l.count-items l.limits.each) l.k
