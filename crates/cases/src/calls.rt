@@ -1,5 +1,5 @@
 // The calls of an input: each is one octet with its number, and then its arguments; what follows them is the next call.
-ghost use Rattle.std.specs.Prelude.{◌≡◌, ◌≤◌, ◌∷◌, ◌++◌, length, IfSome};
+ghost use Rattle.std.specs.Prelude.{◌≡◌, ◌≤◌, ◌∷◌, ◌++◌, length, IfSome, MatchOption};
 ghost use Rattle.std.specs.Iterator.{at_most};
 
 use row::Limits;
@@ -88,7 +88,7 @@ impl<'a, const N: usize> Argument<'a> for [u8; N] {
 
 impl<'a> Argument<'a> for u8 {
     fn take_from(octets: &mut &'a [u8]) -> Option<u8>
-        ensures taken { IfSome result (λ octet. octets.old.now ≡ octet ∷ octets.new.now) }
+        ensures taken { MatchOption result ((length octets.old.now ≡ 0) × (octets.new.now ≡ octets.old.now)) (λ octet. octets.old.now ≡ octet ∷ octets.new.now) }
         ensures rest { length octets.new.now ≤ length octets.old.now }
     {
         octets.split_off_first().copied()

@@ -96,7 +96,7 @@ module _ (protects applications : ℕ) where
       also : {x y : Bool} → x ≡ y → meets applications (openers_always k) || x ≡ meets applications (openers_always k) || y
       also h = ap (λ (b : Bool). meets applications (openers_always k) || b) h
 
-  opened_by_kind : union (kinds_by openers_sets applications) protected ≡ opened protects applications
+  pub opened_by_kind : union (kinds_by openers_sets applications) protected ≡ opened protects applications
   opened_by_kind =
       same_members _ _ (λ k.
       has_union (kinds_by openers_sets applications) protected k

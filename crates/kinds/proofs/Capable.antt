@@ -80,7 +80,7 @@ known_lacked held =
     go true y = refl
     go false y = refl
 
-barred_known : (held : ℕ) → barred (common all_capabilities held) ≡ barred held
+pub barred_known : (held : ℕ) → barred (common all_capabilities held) ≡ barred held
 unfolding barred
 barred_known held = ap (gather needed capability_count) (known_lacked held)
 

@@ -1,17 +1,19 @@
 -- One turn of the loop over a TAC's elements, said of `after`: an element with an unknown identifier is skipped, and for a known one what was met
 -- decides as what stood does, for the two are one by `met_is_stood`. Assumes nothing.
-use Prim.Native.Nat.{ℕ, ◌+◌, ◌-◌}
+use Prim.Native.Nat.{ℕ, ◌+◌, ◌-◌, ◌^◌, ◌<◌}
 use native.Mathlib.Numerals.{add-one}
-use mathlib.Core.Path.{◌≡◌, ◌∙◌, sym, ap}
+use mathlib.Core.Path.{◌≡◌, ◌∙◌, sym, ap, refl}
 use mathlib.Core.List.{List}
 use mathlib.Core.Bool.{Bool, true, false, ◌&&◌}
 use Rattle.choice.specs.Pick.{pick}
+use Rattle.choice.proofs.Branch.{by_test}
+use Rattle.choice.proofs.Tests.{and_second}
 use Rattle.sets.specs.Set.{has, switched}
-use Rattle.sets.proofs.Switches.{numbered_is}
+use Rattle.sets.proofs.Switches.{numbered_is, switched_so}
 use Rattle.kinds.specs.Kinds.{application_count, known_application, is_in}
 use Rattle.lists.specs.Tac.{id_at, adds, stood, after}
 use Rattle.lists.specs.Met.{met, tac_element}
-use Rattle.lists.proofs.First.{met_is_stood, unknown_is_skipped}
+use Rattle.lists.proofs.First.{met_is_stood, met_fits, unknown_is_skipped}
 
 module _ (v : List ℕ) (i : ℕ) where
   in_met : known_application (id_at v i) ≡ true → is_in (met v i) (id_at v i) ≡ stood v (id_at v i) i
@@ -30,3 +32,17 @@ module _ (v : List ℕ) (i : ℕ) where
     applies h p q r =
         rw (p, q, r, e, add-one)
         (ap (λ (b : Bool). pick b (after v opening s i) (switched application_count (after v opening s i) (id_at v i) (adds v opening i))) (in_met (rw e at h)))
+
+  -- an identifier that was met already is remembered as it is
+  module _ {n : ℕ} (e : n ≡ id_at v i) where
+    pub remembers : known_application n ≡ true → {m : ℕ} → m ≡ met v i → switched application_count m n true ≡ met v (i + 1)
+    unfolding tac_element is_in
+    remembers h {m} p = sym once ∙ applies e true 0 h p p refl
+      where
+        small : m < 2 ^ application_count
+        small = rw p (met_fits v i)
+
+        once : tac_element m m n true ≡ switched application_count m n true
+        once =
+            by_test (λ (s : ℕ). s ≡ switched application_count m n true)
+            (λ among. sym (switched_so application_count m n true small (and_second _ _ among))) (λ _. refl)

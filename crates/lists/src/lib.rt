@@ -39,7 +39,7 @@ pub fn tac_list(value: &[u8], opening: bool, listed: u16) -> u16
         }
         let on = opening | (octets::TOP_BIT <= third);
         set = tac_element(met, set, id, on);
-        met = tac_element(met, met, id, true);
+        met = TaId(id as u32).switched(met, true);
     }
     set
 }
@@ -61,6 +61,7 @@ fn sac_element(opening: bool, disabled: u8, x: u8) -> u8
 
 /// The disabled Apps after the elements of a SAC's value, its first octet included, in order.
 #[tactic(auto, unfolding(choice::specs::Pick::pick, crate::specs::Sac::sac_list, crate::specs::Sac::sac_after))]
+#[inline(never)]
 pub fn sac_list(value: &[u8], opening: bool, disabled: u8) -> u8
     ensures { result ≡ sac_list value.now opening disabled }
 {

@@ -1,16 +1,23 @@
 -- Octets put over the front of lent ones: one octet more, what has room and what has none, and one part behind another. By the laws of `take`
 -- and `drop` at the seams. Assumes nothing.
 use Prim.Native.Nat.{ℕ, suc, ◌+◌, ◌-◌, ◌<◌, ◌≤◌}
-use mathlib.Core.Path.{◌≡◌, ap₂, ◌∙◌}
+use mathlib.Core.Path.{◌≡◌, sym, ap, ap₂, ◌∙◌}
 use mathlib.Core.List.{List, [], ◌∷◌, ◌++◌, append_assoc, append-nil}
 use native.Mathlib.Numerals.{add-one}
 use native.Mathlib.Omega.{arith}
 use borrow.Author.Tests.{le-leb, lt-leb}
 use borrow.Rule.Slice.PartMut.{put_mid}
-use lib.ListN.{drop_of_length-le, length, get_or, set, take, drop, length-append, length-drop}
-use lib.Seq.{drop-cons, set-append_seam, append_snoc, take-append_seam, drop-append_seam, drop-drop, take_all}
+use lib.ListN.{drop_of_length-le, length, get_or, set, take, drop, length-append, length-drop, take-append-drop}
+use lib.Seq.{set_at, drop-cons, take-suc, set-append_seam, append_snoc, length-take-le, take-append_seam, take-append-add, drop-append_seam, drop-append-add, drop-drop, take_all}
 use Rattle.choice.proofs.Branch.{taken, left}
 use Rattle.octets.specs.Octets.{over, over_at}
+
+pub front_more : (room written : List ℕ) (i : ℕ) → i < length written → i < length room
+    → set (take i written ++ drop i room) i (get_or written i 0) ≡ take (i + 1) written ++ drop (i + 1) room
+front_more room written i h k =
+    let n : length (take i written) ≡ i = length-take-le i written (omega arith) in
+    rw (drop-cons room i 0, add-one, take-suc written i 0, append_snoc)
+    (set_at (take i written) (get_or room i 0) (drop (suc i) room) (get_or written i 0) i n)
 
 pub over_fits : (written room : List ℕ) → length written ≤ length room → over written room ≡ written ++ drop (length written) room
 unfolding over
@@ -42,6 +49,24 @@ over_behind a b room h =
     let rest = drop (length a) room in
     rw (over_fits a room (omega arith), over_fits (a ++ b) room (omega arith), take-append_seam, drop-append_seam)
     (rw (over_fits b rest (omega (arith, length-drop (length a) room))) (simp (length-append, drop-drop, append_assoc)))
+
+-- nothing put behind the first octets is nothing put
+pub none_at : (at : ℕ) (l : List ℕ) → l ≡ over_at at [] l
+unfolding over_at
+none_at at l = sym (ap (λ (r : List ℕ). take at l ++ r) (over_fits [] (drop at l) (omega arith)) ∙ take-append-drop at l)
+
+-- the same where both stand behind the first `at` octets
+pub at_then : (at : ℕ) (a b room : List ℕ) {before after : List ℕ} → at + length a + length b ≤ length room → before ≡ over_at at a room
+    → after ≡ over_at (at + length a) b before → after ≡ over_at at (a ++ b) room
+unfolding over_at
+at_then at a b room h e p =
+    let front : length (take at room) ≡ at = length-take-le at room (omega arith) in
+    let rest = drop at room in
+    let moved : at + length a ≡ length (take at room) + length a = ap (λ (n : ℕ). n + length a) (sym front) in
+    p ∙ ap₂ (λ (n : ℕ) (l : List ℕ). take n l ++ over b (drop n l)) moved e
+    ∙ ap₂ (λ (x y : List ℕ). x ++ over b y) (take-append-add (take at room) (over a rest) (length a)) (drop-append-add (take at room) (over a rest) (length a))
+    ∙ append_assoc (take at room) (take (length a) (over a rest)) (over b (drop (length a) (over a rest)))
+    ∙ ap (λ (l : List ℕ). take at room ++ l) (over_behind a b rest (omega (arith, length-drop at room)))
 
 -- the same as a step: after `a` the part b, which came as `written`
 pub then : (a b room : List ℕ) {before after written : List ℕ} → length a + length b ≤ length room → before ≡ over a room → written ≡ b

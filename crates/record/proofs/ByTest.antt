@@ -1,14 +1,14 @@
 -- Storing a session, and the way back, test by test: what is answered where each test leads, and what is then in the room. Assumes nothing.
 use Prim.Native.Nat.{ℕ}
 use mathlib.Core.Path.{◌≡◌, refl, sym, ◌∙◌}
-use mathlib.Core.Bool.{true, false}
+use mathlib.Core.Bool.{true, false, ◌&&◌, true≢false}
 use mathlib.Core.List.{List}
 use native.Mathlib.Omega.{arith}
 use borrow.Author.Tests.{eqb-true, eq-eqb, ne_eqb}
 use lib.Dec.{eqb}
 use lib.ListN.{length}
 use Rattle.choice.proofs.Branch.{taken, left, by_test}
-use Rattle.choice.proofs.Tests.{holds_if}
+use Rattle.choice.proofs.Tests.{holds_if, and_both}
 use Rattle.refusals.specs.Refusals.{not_refused, not_sound, capabilities_held}
 use Rattle.session.specs.declared.Session.{Session}
 use Rattle.session.specs.Session.{sound}
@@ -39,6 +39,14 @@ store_stays s room refused =
   where
     Stays : List ℕ → Type 0
     Stays l = l ≡ room
+
+pub store_refused : (s : Session) (room : List ℕ) → (sound s && eqb (length room) record_length) ≡ false → store_refusal s room ≡ not_sound
+unfolding store_refusal
+store_refused s room h =
+    by_test No (λ e. by_test No (λ n. absurd (true≢false (sym (and_both _ _ e n) ∙ h))) (λ _. refl)) (λ _. refl)
+  where
+    No : ℕ → Type 0
+    No r = r ≡ not_sound
 
 -- ---- the way back
 module _ (l room : List ℕ) where

@@ -1,8 +1,7 @@
 -- `lists::tac_list` meets its contract. Assumes nothing.
-use Rattle.std.proofs.Common.{◌<◌, ◌/◌, ◌∙◌, sym, refl, length, arith}
-use mathlib.Core.Bool.{true}
+use Rattle.std.proofs.Common.{◌<◌, ◌/◌, ◌∙◌, sym, length, arith}
 use Rattle.area.specs.Area.{element_length}
-use Rattle.lists.proofs.Turn.{skips, applies}
+use Rattle.lists.proofs.Turn.{skips, applies, remembers}
 use Rattle.lists.proofs.Chunks.{id_is, adds_is}
 use Rattle.lists.proofs.tac_list.Goals as goal
 
@@ -23,5 +22,5 @@ loop-high-preserved c =
     let known = sym c.is_known.ensures ∙ c.if-not-is_known.false in (
       omega arith,
       c.tac_element-set.ensures ∙ applies _ _ id _ _ known inv.2 inv.1 on,
-      c.tac_element-met.ensures ∙ applies _ _ id true 0 known inv.2 inv.2 refl,
+      c.switched-met.ensures ∙ remembers _ _ id known inv.2,
     )
